@@ -1,0 +1,13 @@
+pub mod Form
+pub mod Number
+pub mod At
+pub mod Put
+pub mod Length
+pub mod Lone
+pub mod Answers
+pub mod Field
+pub mod Raw
+pub mod Loop
+pub mod Optional
+pub mod Theorems
+pub mod Examples

@@ -1,0 +1,109 @@
+// The number form: groups of seven bits, the low group first, the top bit set while more follow, the shortest form only.
+use crate::place::Place;
+use crate::place::write_number;
+ghost use mathlib.Core.Path.{_≡_};
+ghost use Prim.Native.Nat.{_<_};
+ghost use lib.Dec.{leb};
+ghost use Rattle.forms.specs.Number.{number, numberBytes};
+ghost use Rattle.forms.specs.At.{readAt};
+ghost use Rattle.forms.specs.Answers.{numberAt, numberRead, numberWrote};
+ghost use Rattle.forms.specs.Length.{Sized};
+ghost use Rattle.forms.specs.Lone.{readOne, writeOne};
+
+// What stands at a place: a number and the place behind it, bytes that stop too early, or no number within the bound.
+pub enum NumberAt {
+    Value(u64, usize),
+    Short,
+    Refused,
+}
+
+pub fn wide(x: u8) -> u64
+    ensures { λ r. ⌜ (r ≡ x) × (r < 256) ⌝ }
+{
+    x as u64
+}
+
+// The number at `at`, at most `most`. What is read so far is `value`; the groups still to come count `scale` each and make a
+// number of at least `least`, which only the shortest form keeps, and at most `room`.
+pub fn read_number(s: &[u8], at: usize, most: u64) -> NumberAt
+    ensures { λ r. ⌜ numberAt r ≡ readAt (number most) (now (s .entry)) at ⌝ }
+{
+    let mut i = at;
+    let mut least: u64 = 0;
+    let mut room = most;
+    let mut scale: u64 = 1;
+    let mut value: u64 = 0;
+    while i < s.len() {
+        let b = wide(s[i]);
+        if b < least {
+            return NumberAt::Refused;
+        }
+        if room < b {
+            return NumberAt::Refused;
+        }
+        if b < 128 {
+            return NumberAt::Value(value + scale * b, i + 1);
+        }
+        value = value + scale * (b - 128);
+        scale = scale * 128;
+        room = (room - b) / 128 + 1;
+        least = 1;
+        i += 1;
+    }
+    NumberAt::Short
+}
+
+// How many bytes a number takes: one for each seven bits up to its highest set bit.
+pub fn number_len(v: u64) -> usize
+    ensures { λ r. ⌜ Sized (numberBytes v) 10 r ⌝ }
+{
+    if v == 0 {
+        return 1;
+    }
+    let bits = 64 - u64::leading_zeros(v);
+    ((bits + 6) / 7) as usize
+}
+
+// What reading one number from a buffer answers: the number and the bytes used; Packet, refusal 4; Short, refusal 9.
+pub enum ReadNumber {
+    Value(u64, usize),
+    Packet,
+    Short,
+}
+
+// The number, at most `most`, that the buffer begins with.
+pub fn read_lone_number(s: &[u8], most: u64) -> ReadNumber
+    ensures { λ r. ⌜ numberRead r ≡ readOne 4 (number most) (now (s .entry)) ⌝ }
+{
+    if s.len() == 0 {
+        return ReadNumber::Packet;
+    }
+    match read_number(s, 0, most) {
+        NumberAt::Value(v, n) => ReadNumber::Value(v, n),
+        NumberAt::Short => ReadNumber::Short,
+        NumberAt::Refused => ReadNumber::Packet,
+    }
+}
+
+// What writing one number into a buffer answers: the bytes written; Packet, refusal 4, for a number above its bound; Room,
+// refusal 7.
+pub enum WroteNumber {
+    Bytes(usize),
+    Packet,
+    Room,
+}
+
+// The number at the front of `out`, whose other bytes stay as they are; refused, all of them do.
+pub fn write_lone_number(out: &mut [u8], value: u64, most: u64) -> WroteNumber
+    ensures { λ r. ⌜ (numberWrote r, now (out .exit)) ≡ writeOne 4 (leb value most) (numberBytes value) (now (out .entry)) ⌝ }
+{
+    if most < value {
+        return WroteNumber::Packet;
+    }
+    let n = number_len(value);
+    if out.len() < n {
+        return WroteNumber::Room;
+    }
+    write_number(out, Place::At(0), value);
+    WroteNumber::Bytes(n)
+}

@@ -1,0 +1,9 @@
+pub mod Endpoints
+pub mod Key
+pub mod Shard
+pub mod KeyLaws
+pub mod KeyForm
+pub mod KeyRead
+pub mod KeyWrite
+pub mod KeyLength
+pub mod KeyTheorems
