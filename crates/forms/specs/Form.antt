@@ -147,6 +147,10 @@ module _ (test : ℕ → Bool) where
   unfolding one one-read
   one-reads some h b s = refl
 
+  pub one-writes : (some : ℕ) (h : ok some ≡ true) (b : ℕ) → one some h .write b ≡ b ∷ []
+  unfolding one
+  one-writes some h b = refl
+
   pub one-ends : (some : ℕ) (h : ok some ≡ true) → one some h .read [] ≡ short
   unfolding one one-read
   one-ends some h = refl

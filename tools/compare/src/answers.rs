@@ -1,0 +1,6 @@
+//! The lists of known answers: what is asked, and how each answer is written down.
+
+pub mod cuts;
+pub mod keys;
+pub mod lines;
+pub mod numbers;
