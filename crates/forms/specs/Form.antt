@@ -155,6 +155,10 @@ module _ (test : ℕ → Bool) where
   unfolding one one-read
   one-ends some h = refl
 
+  pub one-is-valid : (some : ℕ) (h : ok some ≡ true) (b : ℕ) → ok b ≡ true → one some h .valid b
+  unfolding one
+  one-is-valid some h b v = v
+
   pub one-valid : (some : ℕ) (h : ok some ≡ true) (b : ℕ) → one some h .valid b → ltb b 256 && test b ≡ true
   unfolding one
   one-valid some h b v = v

@@ -54,6 +54,14 @@ number-at-most (suc n) v h = go (ltb v 128) refl (λ k. number-at-most n (v / 12
         let below : v / 128 < 128 ^ suc n = div-lt-iff-lt-mul some .1 (rw (pow-suc 128 (suc n)) at h) in
         omega (arith, large-length v (ltb-false v 128 e), ih below)
 
+-- a number takes at least one byte
+pub number-at-least : (v : ℕ) → 1 ≤ length (numberBytes v)
+number-at-least v = go (ltb v 128) refl
+  where
+    go : (t : Bool) → ltb v 128 ≡ t → 1 ≤ length (numberBytes v)
+    go true e = omega (arith, small-length v (ltb-true v 128 e))
+    go false e = omega (arith, large-length v (ltb-false v 128 e))
+
 -- r is the length of the bytes, at most `most`
 pub record Sized (bytes : List ℕ) (most r : ℕ) : Type 0 where
   pub length-is : r ≡ length bytes

@@ -7,7 +7,7 @@ use native.Mathlib.Omega.{arith}
 use lib.ListN.{length, length-append}
 use Rattle.forms.specs.Form.{Form, Read, got, short, only-is-valid, over-is-valid, over-fits, over-ends, follow-is-valid, follow-first, follow-second, pair, pair-ends, pair-first, pair-second, pair-valid, raw, raw-length, below-raw, raw-is-below, choice-is-valid, choice-inside}
 use Rattle.forms.specs.Number.{number, numberBytes, number-ends, number-below, below-number}
-use Rattle.forms.specs.Length.{number-at-most}
+use Rattle.forms.specs.Length.{number-at-most, number-at-least}
 use Rattle.forms.specs.Optional.{optional16, optional32, number16, number32, optional16-valid, optional16-below, optional32-valid, optional32-below}
 use Rattle.forms.specs.Lone.{value, refusal, readOne}
 use Rattle.forms.specs.Theorems.{Begun, Beginning, read-back, was-written, short-only, is-short, other-only, is-other}
@@ -230,9 +230,42 @@ key-at-most k h =
     let c = encapsulation-short (k .encapsulation) (h .encapsulation) in
     rw key-writes (simp (length-append, mac-sized) (omega arith))
 
+-- ---- and at least 27, which with the rest of a packet are its 35
+
+endpoints-some : (e : Endpoints) → 1 ≤ length (endpoints .write e)
+endpoints-some None = rw none-writes (omega arith)
+endpoints-some (Ports s d) = rw ports-writes (omega arith)
+endpoints-some (SecurityAssociation i) = rw association-writes (omega arith)
+endpoints-some (GreProtocol p) = rw gre-writes (omega arith)
+
+address-some : (a : Address) → 5 ≤ length (address .write a)
+address-some (V4 a) = rw v4-writes (omega (arith, raw-length 4 a))
+address-some (V6 x y) = rw v6-writes (omega (arith, length-append (raw 8 .write x) (raw 8 .write y), raw-length 8 x, raw-length 8 y))
+
+vlan-some : (g : VlanTags) → 1 ≤ length (vlan .write g)
+vlan-some Untagged = rw untagged-writes (omega arith)
+vlan-some (Single t) = rw single-writes (omega arith)
+vlan-some (Double t u) = rw double-writes (omega arith)
+
+encapsulation-some : (c : OptEncapsulation) → 1 ≤ length (encapsulation .write c)
+encapsulation-some Absent = rw no-tunnel-writes (number-at-least 0)
+encapsulation-some (Present e) =
+    rw tunnel-writes (omega (arith, length-append (numberBytes (e .kind + 1)) (numberBytes (number32 (e .id))), number-at-least (e .kind + 1)))
+
+pub key-at-least : (k : FlowKey) → 27 ≤ length (key .write k)
+key-at-least k =
+    let p = number-at-least (k .protocol) in
+    let t = number-at-least (number16 (k .ethertype)) in
+    let e = endpoints-some (k .endpoints) in
+    let a = address-some (k .source) in
+    let b = address-some (k .destination) in
+    let g = vlan-some (k .vlan) in
+    let c = encapsulation-some (k .encapsulation) in
+    rw key-writes (simp (length-append, mac-sized) (omega arith))
+
 -- ---- reading
 
-key-ends : key .read [] ≡ short
+pub key-ends : key .read [] ≡ short
 unfolding key
 key-ends = over-ends toKey fromKey _ (λ x v. refl) (pair-ends (number 255) _ (number-ends 255))
 

@@ -1,0 +1,12 @@
+pub mod Idle
+pub mod Counting
+pub mod Sound
+pub mod Observed
+pub mod Summary
+pub mod CountingLaws
+pub mod SoundLaws
+pub mod RefusalLaws
+pub mod SoundKept
+pub mod SummaryLaws
+pub mod SummaryTimes
+pub mod Examples
