@@ -30,6 +30,10 @@ refusalOf r p =
     (cond (packetInRange p) (cond (hasRoom r p) Refusal.None Refusal.Spent) Refusal.Packet)
     Refusal.Damaged
 
+-- the same in document 01's numbers
+abbrev pub refusalNumber : FlowRecord → PacketFacts → ℕ
+refusalNumber r p = cond (soundAside r) (cond (packetInRange p) (cond (hasRoom r p) 0 6) 4) 3
+
 -- the answer: a refused record is unchanged
 abbrev pub answerOf : Refusal → FlowRecord → FlowRecord → Counted
 answerOf Refusal.None old new = record { refusal = Refusal.None; flow = new }
@@ -44,3 +48,8 @@ observedOf r d p = answerOf (refusalOf r p) r (countedOf r d p)
 unfoldable pub begunOf : TimeResolution → ℕ → PacketFacts → Begun
 begunOf resolution protocol p =
     cond (packetInRange p) (Begun.Record (countedOf (openedOf resolution protocol p) Direction.Forward p)) Begun.Packet
+
+-- document 01's number of what beginning a record answers
+abbrev pub begunNumber : Begun → ℕ
+begunNumber (Begun.Record r) = 0
+begunNumber Begun.Packet = 4

@@ -1,6 +1,6 @@
 -- The refusals of a packet on a host's own record: exactly when each is given, and what it leaves. Assumes nothing.
 use Prim.Native.Nat.{ℕ, _+_, _^_, _<_, _≤_}
-use mathlib.Core.Path.{_≡_, refl}
+use mathlib.Core.Path.{_≡_, refl, ap, _∙_}
 use mathlib.Core.Bool.{Bool, true, false, cond, _&&_}
 use mathlib.Core.Logic.{_↔_, _⊎_, inl, inr, ⊎-elim}
 use native.Mathlib.Omega.{arith}
@@ -11,9 +11,10 @@ use Rattle.flow.specs.declared.record.PacketFacts.{PacketFacts}
 use Rattle.flow.specs.declared.record.Direction.{Direction}
 use Rattle.flow.specs.declared.time.TimeResolution.{TimeResolution}
 use Rattle.flow.specs.declared.host.Refusal.{Refusal}
+use Rattle.flow.specs.declared.host.Begun.{Begun}
 use Rattle.flow.specs.Counting.{noFlags, openedOf, countedOf, hasRoom, RoomToCount}
 use Rattle.flow.specs.Sound.{soundAside}
-use Rattle.flow.specs.Observed.{packetInRange, refusalOf, answerOf, observedOf}
+use Rattle.flow.specs.Observed.{numberOf, packetInRange, refusalOf, refusalNumber, answerOf, observedOf, begunOf, begunNumber}
 use Rattle.flow.specs.Summary.{packetsOf, octetsOf}
 use Rattle.flow.specs.SoundLaws.{sound-facts, room-facts}
 
@@ -172,3 +173,23 @@ refused-is-unchanged r d p refused = kept (refusalOf r p) r (countedOf r d p) re
 pub accepted-is-counted : (r : FlowRecord) (d : Direction) (p : PacketFacts) → refusalOf r p ≡ Refusal.None → observedOf r d p .flow ≡ countedOf r d p
 unfolding observedOf
 accepted-is-counted r d p e = simp e
+
+-- the answer's number is document 01's
+pub refusal-number : (r : FlowRecord) (d : Direction) (p : PacketFacts) → numberOf (observedOf r d p .refusal) ≡ refusalNumber r p
+unfolding refusalOf
+refusal-number r d p = ap numberOf (answers-refusal r d p) ∙ by-tests (soundAside r) (packetInRange p) (hasRoom r p)
+  where
+    by-tests : (a b c : Bool)
+        → numberOf (cond a (cond b (cond c Refusal.None Refusal.Spent) Refusal.Packet) Refusal.Damaged) ≡ cond a (cond b (cond c 0 6) 4) 3
+    by-tests true true true = refl
+    by-tests true true false = refl
+    by-tests true false c = refl
+    by-tests false b c = refl
+
+pub begun-number : (resolution : TimeResolution) (protocol : ℕ) (p : PacketFacts) → begunNumber (begunOf resolution protocol p) ≡ cond (packetInRange p) 0 4
+unfolding begunOf
+begun-number resolution protocol p = by-test (packetInRange p)
+  where
+    by-test : (a : Bool) → begunNumber (cond a (Begun.Record (countedOf (openedOf resolution protocol p) Direction.Forward p)) Begun.Packet) ≡ cond a 0 4
+    by-test true = refl
+    by-test false = refl

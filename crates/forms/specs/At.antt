@@ -1,5 +1,5 @@
 -- Reading at a place of a list of bytes: what code that keeps a position finds.
-use Prim.Native.Nat.{ℕ, zero, suc, _+_, _-_, _/_, _≤_, _<_}
+use Prim.Native.Nat.{ℕ, _+_, _-_, _/_, _≤_, _<_}
 use mathlib.Core.Path.{_≡_, refl, sym, ap, _∙_}
 use mathlib.Core.List.{List, [], _∷_, _++_, append-assoc}
 use mathlib.Core.Bool.{Bool, true, false, cond, _&&_}
@@ -8,7 +8,7 @@ use native.Mathlib.Numerals.{add-one}
 use lib.ListN.{length, length-append, length-drop, take, drop, getD, take-append-drop, drop-of-length-le}
 use lib.Seq.{drop-cons, drop-append-seam}
 use Rattle.forms.specs.Form.{Form, Read, got, short, refused, andThen, andThen-got, only, only-reads, one, ok, one-of-byte, over, over-reads, follow, follow-reads, pair, with-first, first-agrees, pair-is, with-first-is, byte, byte-reads, byte-ends, Alt, has, find, choice, choice-reads}
-use Rattle.forms.specs.Number.{readGroups, groups-back, number, step, raise, within, is-within, step-last, step-more, step-out}
+use Rattle.forms.specs.Number.{readGroups, step, raise, within, is-within, step-last, step-more, step-out}
 use lib.Dec.{ltb, leb}
 use borrow.Author.Tests.{lt-leb, lt-ltb}
 
@@ -169,13 +169,6 @@ module _ {A : Type 0} (f : Form A) (s : List ℕ) (at : ℕ) (a : A) (n : ℕ) w
       let same : length s - length u ≡ n = cc in
       omega arith
 
-pub groups-below : (least most : ℕ) (s : List ℕ) (at v n : ℕ) → placed (readGroups least most) s at ≡ got v n → v ≤ most
-unfolding placed
-groups-below least most s at v n e =
-    let (x, u, r, k) = andThen-got (readGroups least most (drop at s)) (λ a rest. got a (length s - length rest)) v n e in
-    let same : x ≡ v = cc in
-    rw same at (groups-back least most (drop at s) x u r .1)
-
 and-false : (p : Bool) → p && false ≡ false
 and-false true = refl
 and-false false = refl
@@ -200,7 +193,3 @@ module _ (s : List ℕ) (at b least most : ℕ) where
   pub more-at : at < length s → b ≡ getD s at 0 → b < 256 → least ≤ b → b ≤ most → 128 ≤ b
       → raise b (placed (readGroups 1 ((most - b) / 128 + 1)) s (at + 1)) ≡ placed (readGroups least most) s at
   more-at h e w l m large = sym (step-more least most b (at + 1) more (is-within least most b w l m) large) ∙ groups-byte h e
-
-  pub more-then : (x y : Read ℕ ℕ) → y ≡ raise b x → x ≡ placed (readGroups 1 ((most - b) / 128 + 1)) s (at + 1)
-      → at < length s → b ≡ getD s at 0 → b < 256 → least ≤ b → b ≤ most → 128 ≤ b → y ≡ placed (readGroups least most) s at
-  more-then x y p q h e w l m large = p ∙ ap (λ (r : Read ℕ ℕ). raise b r) q ∙ more-at h e w l m large

@@ -1,8 +1,8 @@
 -- Worked examples, computed.
-use Prim.Native.Nat.{ℕ, _^_, _-_}
+use Prim.Native.Nat.{_^_, _-_}
 use mathlib.Core.Path.{_≡_, refl}
-use mathlib.Core.List.{List, [], _∷_}
-use Rattle.forms.specs.Form.{Read, got, short, refused}
+use mathlib.Core.List.{[], _∷_}
+use Rattle.forms.specs.Form.{got, short, refused}
 use Rattle.forms.specs.Number.{groups, numberBytes, readGroups}
 
 -- 300 is AC 02, and is read back; 80 00 is refused

@@ -161,16 +161,6 @@ follow-taken {K} {A} f key g agrees {s} {n₀} {n₁} {n₂} {k} {a} p q = recor
     start Short = refl
     start Refused = refl
 
--- the first value is refused, or there is none
-pub follow-none : {K A : Type 0} (f : Form K) (key : A → K) (g : K → Form A) (agrees : (k : K) (a : A) → f .valid k → g k .valid a → key a ≡ k) {s : List ℕ} {n₀ : Next} (n₁ : Next) {k : K} (a : A)
-    → Taken f s n₀ k (refuse n₁) → Taken (follow f key g agrees) s n₀ a (refuse n₁)
-follow-none {K} {A} f key g agrees {s} {n₀} n₁ {k} a p = follow-taken f key g agrees p (record { reads = failed n₁ })
-  where
-    failed : (n : Next) → answer a (refuse n) ≡ readFrom (g k) s (refuse n)
-    failed (At i) = refl
-    failed Short = refl
-    failed Refused = refl
-
 -- a value of no bytes, behind a field
 pub only-taken : {A K : Type 0} (a : A) {f : Form K} {s : List ℕ} {n₀ n₁ : Next} {k : K} → Taken f s n₀ k n₁ → Taken (only a) s n₁ a n₁
 only-taken {A} {K} a {f} {s} {n₀} {n₁} {k} p = record { reads = go n₁ (p .reads) }

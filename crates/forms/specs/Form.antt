@@ -1,7 +1,7 @@
 -- A byte form: how values of a type are written as bytes and read back, with its laws. The laws are proved once for each way of
 -- making a form: `only`, `one`, `over` and `follow`, and of these `pair`, `byte` and `raw`.
 use Prim.Native.Nat.{ℕ, zero, suc, _+_, _*_, _/_, _%_, _^_, _<_}
-use mathlib.Core.Path.{_≡_, refl, sym, ap, _∙_, subst}
+use mathlib.Core.Path.{_≡_, refl, sym, ap, _∙_}
 use mathlib.Core.List.{List, [], _∷_, _++_, append-assoc, append-nil}
 use mathlib.Core.Bool.{Bool, true, false, cond, _&&_}
 use mathlib.Core.Logic.{_⊎_, inl, inr}

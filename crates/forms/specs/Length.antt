@@ -2,14 +2,14 @@
 use Prim.Native.Nat.{ℕ, zero, suc, _+_, _-_, _*_, _/_, _^_, _≤_, _<_}
 use mathlib.Core.Path.{_≡_, refl, sym, ap, _∙_}
 use native.Mathlib.Omega.{arith}
-use native.Mathlib.Nat.{pow-zero, pow-suc, one-le-pow, le-div-iff-mul-le, div-lt-iff-lt-mul, le-trans, lt-of-lt-of-le, add-suc}
-use mathlib.Core.List.{List, _++_}
+use native.Mathlib.Nat.{pow-suc, one-le-pow, le-div-iff-mul-le, div-lt-iff-lt-mul, le-trans, lt-of-lt-of-le}
+use mathlib.Core.List.{List}
 use mathlib.Core.Bool.{Bool, true, false}
 use lib.Dec.{ltb}
 use borrow.Author.Tests.{ltb-true, ltb-false}
-use lib.ListN.{length, length-append}
-use lib.Pow.{pow-add, pow-mono, pow-pos}
-use lib.Count.{leadingZeros, leading-top, leading-le}
+use lib.ListN.{length}
+use lib.Pow.{pow-add, pow-mono}
+use lib.Count.{leadingZeros, leading-top}
 use Rattle.forms.specs.Number.{numberBytes, bytes-small, bytes-large}
 
 -- a number of n + 1 groups
@@ -72,6 +72,3 @@ sized-zero = record { length-is = sym (small-length 0 (omega arith)); fits = ome
 
 pub sized-bits : (v : ℕ) → 0 < v → v < 2 ^ 64 → Sized (numberBytes v) 10 ((64 - leadingZeros 64 v + 6) / 7)
 sized-bits v p h = record { length-is = number-length v p h; fits = omega arith }
-
-pub sized-append : {xs ys : List ℕ} {a b i j : ℕ} → Sized xs a i → Sized ys b j → Sized (xs ++ ys) (a + b) (i + j)
-sized-append {xs} {ys} p q = record { length-is = omega (arith, length-append xs ys, p .length-is, q .length-is); fits = omega (arith, p .fits, q .fits) }

@@ -1,15 +1,14 @@
 -- Writing bytes one behind the other: each goes where the one before ended, and nothing more is stored once there is no room.
-use Prim.Native.Nat.{ℕ, zero, suc, _+_, _-_, _/_, _%_, _≤_, _<_}
+use Prim.Native.Nat.{ℕ, suc, _+_, _≤_, _<_}
 use mathlib.Core.Path.{_≡_, refl, sym, ap, _∙_}
-use mathlib.Core.List.{List, [], _∷_, _++_, append-nil}
+use mathlib.Core.List.{List, [], _∷_, _++_}
 use mathlib.Core.Bool.{Bool, true, false, cond}
 use native.Mathlib.Omega.{arith}
-use native.Mathlib.Numerals.{add-one}
 use native.Mathlib.Nat.{zero-add, add-assoc, add-zero}
 use lib.Dec.{leb}
-use borrow.Author.Tests.{leb-true, leb-false, le-leb, lt-leb}
-use lib.ListN.{length, length-append, set, take, drop}
-use lib.Seq.{sets, set-out, sets-eq, length-sets, take-at}
+use borrow.Author.Tests.{leb-false, le-leb, lt-leb}
+use lib.ListN.{length, length-append, set, drop}
+use lib.Seq.{sets, set-out, sets-eq, length-sets}
 use Rattle.forms.specs.declared.place.Place.{Place}
 use Rattle.forms.specs.declared.place.Place.the-variants.{At, Full}
 

@@ -10,7 +10,7 @@ use lib.Arith.{mod-mul}
 use lib.Dec.{ltb}
 use borrow.Author.Tests.{ltb-true, ltb-false}
 use lib.ListN.{length, getD}
-use Rattle.forms.specs.Form.{Read, got, short, byte, only-writes, raw, raw-zero, raw-writes, raw-one-writes}
+use Rattle.forms.specs.Form.{short, byte, raw, raw-zero, raw-writes, raw-one-writes}
 use Rattle.forms.specs.At.{readAt, byte-at, byte-end}
 use Rattle.forms.specs.Field.{Taken, NumberTaken, noNumber, raw-first, raw-taken, raw-below}
 use Rattle.forms.specs.Put.{Put, put-then}

@@ -8,8 +8,8 @@ use native.Mathlib.Omega.{arith}
 use lib.ListN.{length, length-append}
 use Rattle.forms.specs.Form.{Form, Read, got, short, refused, andThen, short-begins, begins-short}
 use Rattle.forms.specs.Number.{number, numberBytes, number-writes, number-ends, number-below, below-number}
-use Rattle.forms.specs.At.{readAt, placed-front}
-use Rattle.forms.specs.Lone.{Answer, value, refusal, answered, readOne}
+use Rattle.forms.specs.At.{placed-front}
+use Rattle.forms.specs.Lone.{value, refusal, answered, readOne}
 
 -- s begins with a form: that of a value that has one
 pub record Begun {A : Type 0} (f : Form A) (s : List ℕ) : Type 0 where

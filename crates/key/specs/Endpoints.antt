@@ -1,5 +1,4 @@
 -- What key.rs gives of the two ends of a flow.
-use Prim.Native.Nat.{ℕ}
 use mathlib.Core.Path.{_≡_, refl}
 use mathlib.Core.Bool.{Bool, true, false}
 use Rattle.forms.specs.declared.optional.OptU16.{OptU16}

@@ -2,7 +2,7 @@
 use Prim.Native.Nat.{ℕ}
 use mathlib.Core.Path.{_≡_, refl, ap}
 use mathlib.Core.List.{List, [], _∷_}
-use mathlib.Core.Bool.{Bool, true, false, cond}
+use mathlib.Core.Bool.{cond}
 use lib.Dec.{eqb}
 use Rattle.forms.specs.declared.optional.OptU8.{OptU8}
 use Rattle.forms.specs.declared.optional.OptU16.{OptU16}
@@ -10,7 +10,6 @@ use Rattle.key.specs.Endpoints.{hasReverseDirection, reversedEndpoints, 
 use Rattle.key.specs.declared.key.Address.{Address}
 use Rattle.key.specs.declared.key.Endpoints.{Endpoints}
 use Rattle.key.specs.declared.key.FlowKey.{FlowKey}
-use Rattle.key.specs.declared.link.MacAddress.{MacAddress}
 
 -- "Reversal changes over addresses, ports and MACs only."
 abbrev pub reversedKey : FlowKey → FlowKey

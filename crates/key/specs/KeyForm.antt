@@ -1,7 +1,7 @@
 -- The key form (document 01, "Byte forms"): protocol; ethertype; endpoints; source, destination; two MACs; VLAN tags; encapsulation.
-use Prim.Native.Nat.{ℕ, zero, suc, _+_, _-_, _*_, _^_, _≤_, _<_}
+use Prim.Native.Nat.{ℕ, zero, suc, _-_, _^_}
 use mathlib.Core.Path.{_≡_, refl, sym, ap}
-use mathlib.Core.List.{List, [], _∷_}
+use mathlib.Core.List.{[], _∷_}
 use Rattle.forms.specs.Form.{Form, Read, got, short, refused, only, only-is, over, over-image, follow, pair, raw, Alt, alt, alt-only, choice}
 use Rattle.forms.specs.Number.{number}
 use Rattle.forms.specs.Optional.{optional16, optional32}
@@ -16,7 +16,6 @@ use Rattle.key.specs.declared.key.FlowKey.{FlowKey}
 use Rattle.key.specs.declared.link.MacAddress.{MacAddress}
 use Rattle.key.specs.declared.vlan.VlanTags.{VlanTags}
 use Rattle.key.specs.declared.vlan.VlanTags.the-variants.{Untagged, Single, Double}
-use Rattle.key.specs.declared.encapsulation.Encapsulation.{Encapsulation}
 use Rattle.key.specs.declared.encapsulation.OptEncapsulation.{OptEncapsulation}
 use Rattle.key.specs.declared.encapsulation.OptEncapsulation.the-variants.{Absent, Present}
 use Rattle.key.specs.declared.form.KeyAt.{KeyAt}

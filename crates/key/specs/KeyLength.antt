@@ -1,7 +1,6 @@
 -- How many bytes a key takes, part by part.
 use Prim.Native.Nat.{ℕ, _+_}
 use mathlib.Core.Path.{_≡_}
-use mathlib.Core.List.{List, _++_}
 use native.Mathlib.Omega.{arith}
 use lib.ListN.{length, length-append}
 use Rattle.forms.specs.Form.{raw, raw-length}

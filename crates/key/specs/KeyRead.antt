@@ -1,11 +1,11 @@
 -- Reading a key, part by part: what each way out of a reader has found.
 use Prim.Native.Nat.{ℕ, suc, _-_, _^_}
-use mathlib.Core.Path.{_≡_, refl, sym, ap}
+use mathlib.Core.Path.{_≡_, refl}
 use mathlib.Core.List.{List, [], _∷_}
 use native.Mathlib.Omega.{arith}
 use borrow.Author.Tests.{ne-eqb}
 use lib.ListN.{length}
-use Rattle.forms.specs.Form.{Read, got, short, refused, byte, raw}
+use Rattle.forms.specs.Form.{got, short, refused, byte, raw}
 use Rattle.forms.specs.Number.{number}
 use Rattle.forms.specs.At.{readAt}
 use Rattle.forms.specs.Optional.{optional16, optional32}
@@ -14,7 +14,7 @@ use Rattle.forms.specs.Field.{Taken, pair-taken, over-taken, only-taken, follow
 use Rattle.forms.specs.declared.field.Next.{Next}
 use Rattle.forms.specs.declared.optional.OptU16.{OptU16}
 use Rattle.forms.specs.declared.optional.OptU32.{OptU32}
-use Rattle.key.specs.KeyForm.{endpointsTag, noEndpoints, ports, association, gre, endpoints, addressTag, v4, v6, address, mac, vlanCount, untagged, single, double, vlan, kindNumber, idBehind, tunnel, behindKind, kind-agrees, encapsulation, key, keyAt, keyRead}
+use Rattle.key.specs.KeyForm.{endpointsTag, noEndpoints, ports, association, gre, endpoints, addressTag, v4, v6, address, mac, vlanCount, untagged, single, double, vlan, idBehind, tunnel, encapsulation, key, keyAt, keyRead}
 use Rattle.key.specs.declared.key.Address.{Address}
 use Rattle.key.specs.declared.key.Address.the-variants.{V4, V6}
 use Rattle.key.specs.declared.key.Endpoints.{Endpoints}
@@ -24,7 +24,7 @@ use Rattle.key.specs.declared.link.MacAddress.{MacAddress}
 use Rattle.key.specs.declared.vlan.VlanTags.{VlanTags}
 use Rattle.key.specs.declared.vlan.VlanTags.the-variants.{Untagged, Single, Double}
 use Rattle.key.specs.declared.encapsulation.OptEncapsulation.{OptEncapsulation}
-use Rattle.key.specs.declared.encapsulation.OptEncapsulation.the-variants.{Absent, Present}
+use Rattle.key.specs.declared.encapsulation.OptEncapsulation.the-variants.{Absent}
 use Rattle.key.specs.declared.form.KeyAt.{KeyAt}
 use Rattle.key.specs.declared.form.ReadKey.{ReadKey}
 

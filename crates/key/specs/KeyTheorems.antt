@@ -1,18 +1,16 @@
 -- The key form in document 01's words: what may be written, at most 72 bytes, what was written is read back, and equal bytes
 -- are equal keys.
-use Prim.Native.Nat.{ℕ, zero, suc, _+_, _-_, _^_, _≤_, _<_}
-use mathlib.Core.Path.{_≡_, refl, sym, ap, _∙_}
+use Prim.Native.Nat.{ℕ, suc, _+_, _^_, _≤_, _<_}
+use mathlib.Core.Path.{_≡_, refl}
 use mathlib.Core.List.{List, [], _∷_, _++_}
 use native.Mathlib.Omega.{arith}
 use lib.ListN.{length, length-append}
-use Rattle.forms.specs.Form.{Form, Read, got, short, only-is-valid, over-is-valid, over-fits, over-ends, follow-is-valid, follow-first, follow-second, pair, pair-ends, pair-first, pair-second, pair-valid, raw, raw-length, below-raw, raw-is-below, choice-is-valid, choice-inside}
+use Rattle.forms.specs.Form.{got, short, only-is-valid, over-is-valid, over-fits, over-ends, follow-is-valid, follow-first, follow-second, pair-ends, pair-first, pair-second, pair-valid, raw, raw-length, below-raw, raw-is-below, choice-is-valid, choice-inside}
 use Rattle.forms.specs.Number.{number, numberBytes, number-ends, number-below, below-number}
 use Rattle.forms.specs.Length.{number-at-most, number-at-least}
-use Rattle.forms.specs.Optional.{optional16, optional32, number16, number32, optional16-valid, optional16-below, optional32-valid, optional32-below}
+use Rattle.forms.specs.Optional.{optional32, number16, number32, optional16-valid, optional16-below, optional32-valid, optional32-below}
 use Rattle.forms.specs.Lone.{value, refusal, readOne}
 use Rattle.forms.specs.Theorems.{Begun, Beginning, read-back, was-written, short-only, is-short, other-only, is-other}
-use Rattle.forms.specs.declared.optional.OptU16.{OptU16}
-use Rattle.forms.specs.declared.optional.OptU32.{OptU32}
 use Rattle.key.specs.KeyForm.{endpointsTag, noEndpoints, ports, association, gre, endpoints, addressTag, v4, v6, address, toMac, fromMac, mac, vlanCount, untagged, single, double, vlan, kindNumber, idBehind, tunnel, behindKind, kind-agrees, encapsulation, toKey, fromKey, key}
 use Rattle.key.specs.KeyWrite.{none-writes, ports-writes, association-writes, gre-writes, v4-writes, v6-writes, untagged-writes, single-writes, double-writes, no-tunnel-writes, tunnel-writes, key-writes}
 use Rattle.key.specs.KeyLength.{mac-sized}

@@ -1,6 +1,6 @@
 -- Writing a key, part by part.
-use Prim.Native.Nat.{ℕ, suc, _+_, _≤_, _<_}
-use mathlib.Core.Path.{_≡_, refl, sym, ap, _∙_}
+use Prim.Native.Nat.{ℕ, _+_, _≤_, _<_}
+use mathlib.Core.Path.{_≡_, refl}
 use mathlib.Core.List.{List, [], _∷_, _++_, append-nil}
 use mathlib.Core.Bool.{true}
 use native.Mathlib.Numerals.{add-one}
@@ -8,11 +8,10 @@ use lib.ListN.{length}
 use Rattle.forms.specs.Form.{only-writes, over-writes, pair-writes, raw, choice-writes, follow-writes}
 use Rattle.forms.specs.Number.{numberBytes, number-writes}
 use Rattle.forms.specs.Length.{Sized}
-use Rattle.forms.specs.Optional.{optional16, optional32, number16, number32, optional16-writes, optional32-writes}
+use Rattle.forms.specs.Optional.{number16, number32, optional16-writes, optional32-writes}
 use Rattle.forms.specs.Put.{Put, put-then}
 use Rattle.forms.specs.Lone.{writeOne, no-room, wrote-front}
 use Rattle.forms.specs.declared.place.Place.{Place}
-use Rattle.forms.specs.declared.optional.OptU32.{OptU32}
 use Rattle.key.specs.KeyForm.{endpoints, address, mac, vlan, encapsulation, key, keyWrote}
 use Rattle.key.specs.declared.key.Address.{Address}
 use Rattle.key.specs.declared.key.Address.the-variants.{V4, V6}

@@ -1,18 +1,17 @@
 -- The shard: key.rs's formula, bit for bit, and that a key and its reverse agree.
-use Prim.Native.Nat.{ℕ, _+_, _*_, _/_, _%_, _-_, _^_}
-use mathlib.Core.Path.{_≡_, refl, sym, ap, _∙_}
+use Prim.Native.Nat.{ℕ, _*_, _%_, _^_}
+use mathlib.Core.Path.{_≡_}
 use mathlib.Core.List.{List, [], _∷_}
-use mathlib.Core.Bool.{Bool, true, false, cond}
+use mathlib.Core.Bool.{cond}
 use lib.Bits.{bitXor, xor-comm}
 use lib.Dec.{leb}
 use Rattle.arith.specs.Words.{wrappingMul, rotateLeft, shiftRight}
 use Rattle.forms.specs.declared.optional.OptU16.{OptU16}
 use Rattle.forms.specs.declared.optional.OptU32.{OptU32}
-use Rattle.key.specs.Endpoints.{portPair, reversedEndpoints, pair-turned}
+use Rattle.key.specs.Endpoints.{portPair, pair-turned}
 use Rattle.key.specs.Key.{reversedKey}
 use Rattle.key.specs.declared.key.Address.{Address}
 use Rattle.key.specs.declared.key.FlowKey.{FlowKey}
-use Rattle.key.specs.declared.key.PortPair.{PortPair}
 use Rattle.key.specs.declared.vlan.VlanTags.{VlanTags}
 use Rattle.key.specs.declared.encapsulation.OptEncapsulation.{OptEncapsulation}
 

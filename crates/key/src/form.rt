@@ -13,8 +13,6 @@ use forms::field::number_field;
 use forms::field::raw_field;
 use forms::field::refusal;
 use forms::number::number_len;
-use forms::optional::OptU16;
-use forms::optional::OptU32;
 use forms::optional::opt_u16_field;
 use forms::optional::opt_u16_number;
 use forms::optional::opt_u32_field;

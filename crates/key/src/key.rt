@@ -1,5 +1,4 @@
 // What identifies a flow.
-use crate::encapsulation::Encapsulation;
 use crate::encapsulation::OptEncapsulation;
 use crate::link::MacAddress;
 use crate::vlan::VlanTags;

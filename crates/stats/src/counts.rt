@@ -1,7 +1,7 @@
 // What a flow accumulated (stats.rs).
 ghost use mathlib.Core.Path.{_≡_};
 ghost use lib.Dec.{eqb};
-ghost use Prim.Native.Nat.{_+_, _*_, _/_, _%_, _≤_, _<_, _^_};
+ghost use Prim.Native.Nat.{_+_, _/_, _%_};
 ghost use Rattle.stats.specs.Counting.{countedFlags, countedDirection, RoomForFlags, RoomForPacket};
 use crate::range;
 use crate::range::OptRange8;

@@ -1,8 +1,8 @@
 -- The packet form (document 01, "Byte forms"): time in nanoseconds (64-bit); frame octets, captured octets (32-bit); TTL (optional
 -- 8-bit); TCP flags (optional 9-bit mask); ICMP (optional 256 × type + code); DSCP, ECN (optional 8-bit); key.
 use Prim.Native.Nat.{ℕ, _-_, _^_}
-use mathlib.Core.Path.{_≡_, refl}
-use mathlib.Core.Bool.{Bool, true, false}
+use mathlib.Core.Path.{refl}
+use mathlib.Core.Bool.{Bool, true}
 use lib.Dec.{ltb}
 use Rattle.forms.specs.Form.{Form, Read, got, short, refused, over, pair}
 use Rattle.forms.specs.Number.{number}

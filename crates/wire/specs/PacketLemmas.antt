@@ -1,11 +1,11 @@
 -- Reading, measuring and writing a packet, part by part: what each way out of the code has found.
 use Prim.Native.Nat.{ℕ, _+_, _≤_, _<_}
-use mathlib.Core.Path.{_≡_, refl, sym, ap, _∙_}
+use mathlib.Core.Path.{_≡_, refl, _∙_}
 use mathlib.Core.List.{List, _++_}
 use mathlib.Core.Bool.{Bool, true, false}
 use native.Mathlib.Omega.{arith}
 use lib.ListN.{length, length-append}
-use Rattle.forms.specs.Form.{Read, got, short, refused, over-writes, pair-writes}
+use Rattle.forms.specs.Form.{got, short, refused, over-writes, pair-writes}
 use Rattle.forms.specs.Number.{number, numberBytes, number-writes}
 use Rattle.forms.specs.At.{readAt}
 use Rattle.forms.specs.Length.{Sized}
@@ -38,13 +38,6 @@ module _ (s : List ℕ) (next : Next) (at : ℕ) (x : KeyAt) (here : next ≡ Ne
 
   pub part-refused : x ≡ KeyAt.Refused → (k : FlowKey) → Taken key s next k Next.Refused
   part-refused e k = record { reads = rw here (rw e at says) }
-
-module _ {s : List ℕ} {next : Next} {k : FlowKey} where
-  pub part-passed-short : next ≡ Next.Short → Taken key s next k Next.Short
-  part-passed-short e = record { reads = rw e }
-
-  pub part-passed-refused : next ≡ Next.Refused → Taken key s next k Next.Refused
-  part-passed-refused e = record { reads = rw e }
 
 -- ---- reading
 

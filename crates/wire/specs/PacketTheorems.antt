@@ -1,15 +1,15 @@
 -- The packet form in document 01's words: 35 to 103 bytes; what was written is read back; Short and refused exactly when.
-use Prim.Native.Nat.{ℕ, suc, _+_, _-_, _^_, _≤_, _<_}
-use mathlib.Core.Path.{_≡_, refl, sym, ap}
-use mathlib.Core.List.{List, [], _∷_, _++_}
-use mathlib.Core.Bool.{Bool, true, false}
+use Prim.Native.Nat.{ℕ, _+_, _^_, _≤_, _<_}
+use mathlib.Core.Path.{_≡_, refl}
+use mathlib.Core.List.{List, [], _++_}
+use mathlib.Core.Bool.{true}
 use native.Mathlib.Omega.{arith}
 use borrow.Author.Tests.{ltb-true, lt-ltb}
 use lib.ListN.{length, length-append}
-use Rattle.forms.specs.Form.{Form, short, over-is-valid, over-fits, over-ends, pair-ends, pair-first, pair-second, pair-valid}
-use Rattle.forms.specs.Number.{number, numberBytes, number-ends, number-below, below-number}
+use Rattle.forms.specs.Form.{short, over-is-valid, over-fits, over-ends, pair-ends, pair-first, pair-second, pair-valid}
+use Rattle.forms.specs.Number.{number, number-ends, number-below, below-number}
 use Rattle.forms.specs.Length.{number-at-most, number-at-least}
-use Rattle.forms.specs.Optional.{optional8, optional16, number8, number16, optional8-valid, optional16-valid, optional8-below, optional16-below}
+use Rattle.forms.specs.Optional.{number8, number16, optional8-valid, optional16-valid, optional8-below, optional16-below}
 use Rattle.forms.specs.Lone.{value, refusal, readOne}
 use Rattle.forms.specs.Theorems.{Begun, Beginning, read-back, was-written, short-only, is-short, other-only, is-other}
 use Rattle.forms.specs.declared.optional.OptU16.{OptU16}

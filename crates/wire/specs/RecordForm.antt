@@ -1,5 +1,5 @@
 -- The record form (document 01, "Byte forms").
-use Prim.Native.Nat.{ℕ, zero, suc, _+_, _-_, _^_, _≤_}
+use Prim.Native.Nat.{ℕ, zero, suc}
 use mathlib.Core.Path.{_≡_, refl, sym}
 use mathlib.Core.List.{List, [], _∷_}
 use mathlib.Core.Bool.{Bool, true, false, cond, _&&_}
@@ -17,9 +17,7 @@ use Rattle.forms.specs.declared.optional.OptU16.{OptU16}
 use Rattle.forms.specs.declared.optional.OptU32.{OptU32}
 use Rattle.key.specs.KeyForm.{key}
 use Rattle.key.specs.declared.key.FlowKey.{FlowKey}
-use Rattle.stats.specs.declared.range.Range32.{Range32}
 use Rattle.stats.specs.declared.range.OptRange32.{OptRange32}
-use Rattle.stats.specs.declared.range.Range8.{Range8}
 use Rattle.stats.specs.declared.range.OptRange8.{OptRange8}
 use Rattle.stats.specs.declared.counts.TcpFlagCounts.{TcpFlagCounts}
 use Rattle.stats.specs.declared.counts.DirectionStats.{DirectionStats}

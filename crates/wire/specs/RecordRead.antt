@@ -1,16 +1,16 @@
 -- Reading a record, part by part: what each way out of the code has found.
-use Prim.Native.Nat.{ℕ, zero, suc, _≤_}
-use mathlib.Core.Path.{_≡_, refl, sym, ap, _∙_}
+use Prim.Native.Nat.{ℕ, zero, suc}
+use mathlib.Core.Path.{_≡_, refl, ap, _∙_}
 use mathlib.Core.List.{List, [], _∷_}
-use mathlib.Core.Bool.{Bool, true, false, cond, _&&_}
+use mathlib.Core.Bool.{Bool, true, false}
 use native.Mathlib.Omega.{arith}
 use borrow.Author.Tests.{eq-eqb, ne-eqb}
 use lib.ListN.{length}
-use Rattle.forms.specs.Form.{Read, got, short, refused, byte}
+use Rattle.forms.specs.Form.{got, byte}
 use Rattle.forms.specs.Number.{number}
 use Rattle.forms.specs.At.{readAt}
 use Rattle.forms.specs.Optional.{optional8, optional16, optional32}
-use Rattle.forms.specs.Lone.{Answer, value, refusal}
+use Rattle.forms.specs.Lone.{refusal}
 use Rattle.forms.specs.Field.{Taken, pair-taken, over-taken, one-taken, one-none, refuse}
 use Rattle.forms.specs.declared.field.Next.{Next}
 use Rattle.forms.specs.declared.optional.OptU8.{OptU8}

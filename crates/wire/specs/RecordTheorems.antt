@@ -1,26 +1,24 @@
 -- The record form in document 01's words: at most 358 bytes; a sound record is read back; Short and Record exactly when.
-use Prim.Native.Nat.{ℕ, suc, _+_, _-_, _^_, _≤_, _<_}
+use Prim.Native.Nat.{ℕ, _+_, _-_, _^_, _≤_, _<_}
 use mathlib.Core.Path.{_≡_, refl, sym, ap, _∙_, subst}
 use mathlib.Core.List.{List, [], _∷_, _++_}
 use mathlib.Core.Bool.{Bool, true, false, cond, _&&_, false≢true}
 use native.Mathlib.Omega.{arith}
 use lib.ListN.{length, length-append}
-use Rattle.forms.specs.Form.{Form, Read, got, short, refused, andThen, one, over-is-valid, over-fits, over-ends, one-ends, one-is-valid, pair-ends, pair-first, pair-second, pair-valid, short-begins, begins-short}
+use Rattle.forms.specs.Form.{Read, got, short, refused, andThen, over-is-valid, over-fits, over-ends, one-ends, one-is-valid, pair-ends, pair-first, pair-second, pair-valid, short-begins, begins-short}
 use Rattle.forms.specs.Number.{number, numberBytes, number-below, below-number}
-use Rattle.forms.specs.At.{readAt, placed-front}
+use Rattle.forms.specs.At.{placed-front}
 use Rattle.forms.specs.Length.{number-at-most}
 use Rattle.forms.specs.Optional.{number8, number16, number32, optional8-valid, optional16-valid, optional32-valid, optional8-below, optional16-below, optional32-below}
-use Rattle.forms.specs.Lone.{Answer, value, refusal}
+use Rattle.forms.specs.Lone.{value, refusal}
 use Rattle.forms.specs.Theorems.{Beginning, filled}
 use Rattle.forms.specs.declared.optional.OptU8.{OptU8}
-use Rattle.forms.specs.declared.optional.OptU16.{OptU16}
 use Rattle.forms.specs.declared.optional.OptU32.{OptU32}
 use Rattle.key.specs.KeyForm.{key}
 use Rattle.key.specs.KeyTheorems.{KeyInRange, key-valid, key-in-range, key-at-most}
 use Rattle.stats.specs.declared.range.OptRange32.{OptRange32}
 use Rattle.stats.specs.declared.range.OptRange8.{OptRange8}
 use Rattle.stats.specs.declared.counts.TcpFlagCounts.{TcpFlagCounts}
-use Rattle.stats.specs.declared.counts.DirectionStats.{DirectionStats}
 use Rattle.flow.specs.declared.time.EndReason.{EndReason}
 use Rattle.flow.specs.declared.time.OptEndReason.{OptEndReason}
 use Rattle.flow.specs.declared.time.StartState.{StartState}
@@ -29,7 +27,7 @@ use Rattle.flow.specs.declared.record.FlowRecord.{FlowRecord}
 use Rattle.flow.specs.Sound.{soundAside, soundRecord, hasReason}
 use Rattle.flow.specs.SoundLaws.{both}
 use Rattle.wire.specs.PacketForm.{top64}
-use Rattle.wire.specs.RecordForm.{isSchema, schema-undo, schema, reasonNumber, reasonFrom, reason-undo, stateNumber, stateFrom, state-undo, resolutionNumber, resolutionFrom, resolution-undo, bitNumber, bitFrom, bit-undo, reason, state, resolution, truncated, toHead, fromHead, head, toFlags, fromFlags, flags, toDirection, fromDirection, direction, toTail, fromTail, tail, toFields, fromFields, fields, leastOf8, greatestOf8, leastOf32, greatestOf32, range8From, range32From, paired8, paired32, reasonOf, directionFields, directionFrom, headFields, tailFields, fieldsOf, flowFrom, pairedFields, soundFields, recordBytes, recordAnswer, readRecord}
+use Rattle.wire.specs.RecordForm.{isSchema, schema-undo, schema, reasonNumber, reasonFrom, reason-undo, stateNumber, stateFrom, state-undo, resolutionNumber, resolutionFrom, resolution-undo, bitNumber, bitFrom, bit-undo, reason, state, resolution, truncated, toHead, fromHead, head, toFlags, fromFlags, flags, toDirection, fromDirection, direction, toTail, fromTail, tail, toFields, fromFields, fields, leastOf8, greatestOf8, leastOf32, greatestOf32, range8From, range32From, paired8, paired32, reasonOf, directionFields, headFields, tailFields, fieldsOf, flowFrom, pairedFields, soundFields, recordBytes, recordAnswer, readRecord}
 use Rattle.wire.specs.RecordWrite.{head-length, flags-writes, direction-writes, tail-writes, record-writes}
 use Rattle.wire.specs.declared.record.Flow.{Flow}
 use Rattle.wire.specs.declared.record.HeadFields.{HeadFields}

@@ -2,9 +2,8 @@
 use Prim.Native.Nat.{ℕ, _+_, _≤_, _<_}
 use mathlib.Core.Path.{_≡_, refl, sym, ap, _∙_}
 use mathlib.Core.List.{List, [], _∷_, _++_}
-use mathlib.Core.Bool.{Bool, true, false, cond}
+use mathlib.Core.Bool.{Bool, true, false}
 use native.Mathlib.Omega.{arith}
-use lib.Dec.{leb}
 use borrow.Author.Tests.{le-leb, lt-leb}
 use lib.ListN.{length, length-append, take, drop}
 use lib.Seq.{take-at}
@@ -13,7 +12,7 @@ use Rattle.forms.specs.Number.{numberBytes, number-writes}
 use Rattle.forms.specs.Length.{Sized, small-length}
 use Rattle.forms.specs.Optional.{number8, number16, number32, optional8-writes, optional16-writes, optional32-writes}
 use Rattle.forms.specs.Put.{Put, put-then, put-front}
-use Rattle.forms.specs.Lone.{Written, wrote, unwritten, writeOne, not-allowed, no-room, wrote-front}
+use Rattle.forms.specs.Lone.{writeOne, not-allowed, no-room, wrote-front}
 use Rattle.forms.specs.declared.place.Place.{Place}
 use Rattle.key.specs.KeyForm.{key}
 use Rattle.stats.specs.declared.range.Range32.{Range32}

@@ -9,7 +9,6 @@ use key::key::Endpoints;
 use key::key::FlowKey;
 use key::link::MacAddress;
 use key::vlan::VlanTags;
-ghost use mathlib.Core.Path.{_≡_};
 ghost use Rattle.forms.specs.Field.{Taken};
 ghost use Rattle.key.specs.KeyForm.{key};
 

@@ -22,7 +22,6 @@ use forms::optional::opt_u8_number;
 use forms::optional::opt_u16_field;
 use forms::optional::opt_u16_number;
 use forms::optional::opt_u32_field;
-use forms::optional::opt_u32_number;
 use forms::place::Place;
 use forms::place::write_byte;
 use forms::place::write_number;
@@ -48,7 +47,7 @@ ghost use Rattle.forms.specs.Lone.{writeOne};
 ghost use Rattle.forms.specs.Optional.{number8, number32};
 ghost use Rattle.forms.specs.Put.{Put};
 ghost use Rattle.flow.specs.Sound.{soundRecord};
-ghost use Rattle.wire.specs.RecordForm.{schema, reasonNumber, reasonFrom, reasonOf, stateNumber, stateFrom, resolutionNumber, resolutionFrom, bitNumber, bitFrom, head, flags, direction, tail, fields, leastOf8, greatestOf8, leastOf32, greatestOf32, range8From, range32From, paired8, paired32, directionFields, directionFrom, headFields, tailFields, flowFrom, pairedFields, soundFields, recordBytes, recordAnswer, readRecord, recordRead, recordWrote, filledRecord};
+ghost use Rattle.wire.specs.RecordForm.{schema, reasonNumber, reasonFrom, reasonOf, stateNumber, stateFrom, resolutionNumber, resolutionFrom, bitNumber, bitFrom, head, flags, direction, tail, fields, leastOf8, greatestOf8, leastOf32, greatestOf32, range8From, range32From, paired8, paired32, directionFields, directionFrom, headFields, tailFields, flowFrom, pairedFields, recordBytes, recordAnswer, readRecord, recordRead, recordWrote, filledRecord};
 
 // A flow: what identifies it, alongside what it accumulated.
 pub struct Flow {
