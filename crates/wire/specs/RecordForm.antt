@@ -356,6 +356,12 @@ recordWrote (WroteRecord.Bytes n) = wrote n
 recordWrote WroteRecord.Damaged = unwritten 3
 recordWrote WroteRecord.Room = unwritten 7
 
+-- the bytes that were written; refused, none
+abbrev pub bytesWritten : WroteRecord → ℕ
+bytesWritten (WroteRecord.Bytes n) = n
+bytesWritten WroteRecord.Damaged = 0
+bytesWritten WroteRecord.Room = 0
+
 -- the filled part of the output: the record's bytes where it is sound and there is room for them, else none
 abbrev pub filledRecord : Flow → List ℕ → List ℕ
 filledRecord f out = cond (soundRecord (f .«record»)) (cond (leb (length (recordBytes f)) (length out)) (recordBytes f) []) []

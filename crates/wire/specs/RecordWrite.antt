@@ -2,17 +2,17 @@
 use Prim.Native.Nat.{ℕ, _+_, _≤_, _<_}
 use mathlib.Core.Path.{_≡_, refl, sym, ap, _∙_}
 use mathlib.Core.List.{List, [], _∷_, _++_}
-use mathlib.Core.Bool.{Bool, true, false}
+use mathlib.Core.Bool.{Bool, true, false, cond}
 use native.Mathlib.Omega.{arith}
-use borrow.Author.Tests.{le-leb, lt-leb}
+use lib.Dec.{leb}
 use lib.ListN.{length, length-append, take, drop}
 use lib.Seq.{take-at}
 use Rattle.forms.specs.Form.{over-writes, pair-writes, one-writes}
 use Rattle.forms.specs.Number.{numberBytes, number-writes}
 use Rattle.forms.specs.Length.{Sized, small-length}
 use Rattle.forms.specs.Optional.{number8, number16, number32, optional8-writes, optional16-writes, optional32-writes}
-use Rattle.forms.specs.Put.{Put, put-then, put-front}
-use Rattle.forms.specs.Lone.{writeOne, not-allowed, no-room, wrote-front}
+use Rattle.forms.specs.Put.{Put, put-then}
+use Rattle.forms.specs.Lone.{Written, wrote, unwritten, writeOne, not-allowed, no-room, wrote-front}
 use Rattle.forms.specs.declared.place.Place.{Place}
 use Rattle.key.specs.KeyForm.{key}
 use Rattle.stats.specs.declared.range.Range32.{Range32}
@@ -29,7 +29,7 @@ use Rattle.flow.specs.declared.time.EndReason.{EndReason}
 use Rattle.flow.specs.declared.time.StartState.{StartState}
 use Rattle.flow.specs.declared.time.TimeResolution.{TimeResolution}
 use Rattle.flow.specs.Sound.{soundRecord}
-use Rattle.wire.specs.RecordForm.{schema, reasonNumber, reasonOf, stateNumber, resolutionNumber, bitNumber, reason, state, resolution, truncated, head, flags, direction, tail, fields, leastOf8, greatestOf8, leastOf32, greatestOf32, directionFields, headFields, tailFields, fieldsOf, recordBytes, recordWrote, filledRecord}
+use Rattle.wire.specs.RecordForm.{schema, reasonNumber, reasonOf, stateNumber, resolutionNumber, bitNumber, reason, state, resolution, truncated, head, flags, direction, tail, fields, leastOf8, greatestOf8, leastOf32, greatestOf32, directionFields, headFields, tailFields, fieldsOf, recordBytes, recordWrote, bytesWritten, filledRecord}
 use Rattle.wire.specs.declared.record.Flow.{Flow}
 use Rattle.wire.specs.declared.record.HeadFields.{HeadFields}
 use Rattle.wire.specs.declared.record.DirectionFields.{DirectionFields}
@@ -206,18 +206,36 @@ module _ (out : List ℕ) (f : Flow) where
     pub lone-damaged : sound ≡ false → (recordWrote WroteRecord.Damaged, out) ≡ writeOne 3 (soundRecord (f .«record»)) (recordBytes f) out
     lone-damaged h = rw (← e) (not-allowed 3 sound (recordBytes f) out h)
 
--- ---- the part that a record fills
+-- ---- the part that a record fills: what writing it answered, in front of what it left
 
-module _ (out : List ℕ) (f : Flow) (sound : Bool) (e : sound ≡ soundRecord (f .«record»)) where
-  pub filled-damaged : sound ≡ false → [] ≡ filledRecord f out
-  filled-damaged h = rw (← e, h)
+differ : (n k : ℕ) → wrote n ≡ unwritten k → ⊥
+differ n k e = let z : _≡_ {A = ℕ} 0 1 = cc in omega arith
 
-  module _ (holds : sound ≡ true) (n : ℕ) (size : Sized (recordBytes f) 473 n) where
-    pub filled-none : length out < n → [] ≡ filledRecord f out
-    filled-none h = rw (← e, holds, lt-leb (length (recordBytes f)) (length out) (omega arith))
+filled-part : (out bytes : List ℕ) (sound fits : Bool) → leb (length bytes) (length out) ≡ fits → (r : WroteRecord) (after : List ℕ)
+    → _≡_ {A = Written × List ℕ} (recordWrote r, after)
+    (cond sound (cond fits (wrote (length bytes), bytes ++ drop (length bytes) out) (unwritten 7, out)) (unwritten 3, out))
+    → (bytesWritten r ≤ length after) × (take (bytesWritten r) after ≡ cond sound (cond fits bytes []) [])
+filled-part out bytes true true h (WroteRecord.Bytes n) after e =
+    let said : wrote n ≡ wrote (length bytes) = ap (λ (x : Written × List ℕ). x .0) e in
+    let same : n ≡ length bytes = cc in
+    let left : after ≡ bytes ++ drop (length bytes) out = ap (λ (x : Written × List ℕ). x .1) e in
+    (rw left (omega (arith, length-append bytes (drop (length bytes) out))), rw (left, same) (take-at bytes (drop (length bytes) out) (length bytes) refl))
+filled-part out bytes true true h WroteRecord.Damaged after e = absurd (differ (length bytes) 3 (sym (ap (λ (x : Written × List ℕ). x .0) e)))
+filled-part out bytes true true h WroteRecord.Room after e = absurd (differ (length bytes) 7 (sym (ap (λ (x : Written × List ℕ). x .0) e)))
+filled-part out bytes true false h (WroteRecord.Bytes n) after e = absurd (differ n 7 (ap (λ (x : Written × List ℕ). x .0) e))
+filled-part out bytes true false h WroteRecord.Damaged after e = (omega arith, refl)
+filled-part out bytes true false h WroteRecord.Room after e = (omega arith, refl)
+filled-part out bytes false fits h (WroteRecord.Bytes n) after e = absurd (differ n 3 (ap (λ (x : Written × List ℕ). x .0) e))
+filled-part out bytes false fits h WroteRecord.Damaged after e = (omega arith, refl)
+filled-part out bytes false fits h WroteRecord.Room after e = (omega arith, refl)
 
-    pub filled-front : {after : List ℕ} {r : Place} → n ≤ length out → Put out (Place.At 0) (recordBytes f) after r → take n after ≡ filledRecord f out
-    filled-front {after} h p =
-        let fits : length (recordBytes f) ≤ length out = omega arith in
-        rw (← e, holds, le-leb (length (recordBytes f)) (length out) fits)
-        (ap (take n) (put-front p fits) ∙ take-at (recordBytes f) (drop (length (recordBytes f)) out) n (sym (size .length-is)))
+module _ (out : List ℕ) (f : Flow) (r : WroteRecord) (after : List ℕ)
+    (says : (recordWrote r, after) ≡ writeOne 3 (soundRecord (f .«record»)) (recordBytes f) out) (n : ℕ) (is : n ≡ bytesWritten r) where
+  found : (bytesWritten r ≤ length after) × (take (bytesWritten r) after ≡ filledRecord f out)
+  found = filled-part out (recordBytes f) (soundRecord (f .«record»)) (leb (length (recordBytes f)) (length out)) refl r after says
+
+  pub filled-inside : n ≤ length after
+  filled-inside = rw is (found .0)
+
+  pub filled-is : take n after ≡ filledRecord f out
+  filled-is = rw is (found .1)

@@ -47,7 +47,7 @@ ghost use Rattle.forms.specs.Lone.{writeOne};
 ghost use Rattle.forms.specs.Optional.{number8, number32};
 ghost use Rattle.forms.specs.Put.{Put};
 ghost use Rattle.flow.specs.Sound.{soundRecord};
-ghost use Rattle.wire.specs.RecordForm.{schema, reasonNumber, reasonFrom, reasonOf, stateNumber, stateFrom, resolutionNumber, resolutionFrom, bitNumber, bitFrom, head, flags, direction, tail, fields, leastOf8, greatestOf8, leastOf32, greatestOf32, range8From, range32From, paired8, paired32, directionFields, directionFrom, headFields, tailFields, flowFrom, pairedFields, recordBytes, recordAnswer, readRecord, recordRead, recordWrote, filledRecord};
+ghost use Rattle.wire.specs.RecordForm.{schema, reasonNumber, reasonFrom, reasonOf, stateNumber, stateFrom, resolutionNumber, resolutionFrom, bitNumber, bitFrom, head, flags, direction, tail, fields, leastOf8, greatestOf8, leastOf32, greatestOf32, range8From, range32From, paired8, paired32, directionFields, directionFrom, headFields, tailFields, flowFrom, pairedFields, recordBytes, recordAnswer, readRecord, recordRead, recordWrote, bytesWritten, filledRecord};
 
 // A flow: what identifies it, alongside what it accumulated.
 pub struct Flow {
@@ -755,18 +755,21 @@ pub fn write_record(out: &mut [u8], f: Flow) -> WroteRecord
     WroteRecord::Damaged
 }
 
-// A sound record as the part of `out` that it fills; refused, the empty part, which no record fills, and nothing is written.
+fn bytes_written(wrote: WroteRecord) -> usize
+    ensures { λ r. ⌜ r ≡ bytesWritten wrote ⌝ }
+{
+    match wrote {
+        WroteRecord::Bytes(n) => n,
+        WroteRecord::Damaged => 0,
+        WroteRecord::Room => 0,
+    }
+}
+
+// The same, and the part of `out` that the record fills; refused, the empty part, which no record fills.
 pub fn filled_record(out: &mut [u8], f: Flow) -> &mut [u8]
     ensures { λ r. ⌜ now r ≡ filledRecord f (now (out .entry)) ⌝ }
 {
-    let record = f.record;
-    if sound(record) {
-        let n = record_len(f);
-        if out.len() < n {
-            return &mut out[..0];
-        }
-        write_record_at(out, Place::At(0), f);
-        return &mut out[..n];
-    }
-    &mut out[..0]
+    let wrote = write_record(out, f);
+    let n = bytes_written(wrote);
+    &mut out[..n]
 }

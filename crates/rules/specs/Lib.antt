@@ -1,0 +1,17 @@
+pub mod Order
+pub mod Rules
+pub mod Engine
+pub mod Due
+pub mod Totals
+pub mod Ledger
+pub mod Account
+pub mod Demand
+pub mod Spelled
+pub mod Table
+pub mod Laws
+pub mod Slots
+pub mod Loop
+pub mod Sound
+pub mod EngineLaws
+pub mod EngineSound
+pub mod EngineDemand
