@@ -15,22 +15,28 @@ const DEFAULT_SOURCE: &str = "../../../shared/docs/src";
 /// The folder of the modules, in the folder of sources.
 const FLOW_FOLDER: &str = "fluereflow/src/flow";
 
-/// The modules that are taken. `src/flow.rs` stands in for the `mod.rs` above them.
-const FLOW_MODULES: [&str; 4] = ["encapsulation", "key", "link", "vlan"];
+/// The whole folder: its root, and the modules that the root declares.
+const FLOW_FILES: [&str; 8] = [
+    "mod.rs",
+    "encapsulation.rs",
+    "key.rs",
+    "link.rs",
+    "paths.rs",
+    "stats.rs",
+    "time.rs",
+    "vlan.rs",
+];
 
 fn main() {
     println!("cargo:rerun-if-env-changed={SOURCE_VARIABLE}");
     let source = source_folder();
     let copies = build_folder().join("flow");
     fs::create_dir_all(&copies).expect("cargo's build folder can be written");
-    for module in FLOW_MODULES {
-        copy_unchanged(&source.join(FLOW_FOLDER), &copies, module);
+    for file in FLOW_FILES {
+        copy_unchanged(&source.join(FLOW_FOLDER), &copies, file);
     }
-    fs::write(
-        build_folder().join("flow_modules.rs"),
-        declarations(&copies),
-    )
-    .expect("cargo's build folder can be written");
+    fs::write(build_folder().join("flow_module.rs"), declaration(&copies))
+        .expect("cargo's build folder can be written");
 }
 
 fn source_folder() -> PathBuf {
@@ -48,26 +54,17 @@ fn build_folder() -> PathBuf {
     PathBuf::from(env::var_os("OUT_DIR").expect("cargo says where to build"))
 }
 
-fn copy_unchanged(from: &Path, to: &Path, module: &str) {
-    let file = format!("{module}.rs");
-    let original = from.join(&file);
+fn copy_unchanged(from: &Path, to: &Path, file: &str) {
+    let original = from.join(file);
     println!("cargo:rerun-if-changed={}", original.display());
     let text = fs::read(&original).unwrap_or_else(|error| give_up(&original, &error.to_string()));
-    fs::write(to.join(&file), text).expect("cargo's build folder can be written");
+    fs::write(to.join(file), text).expect("cargo's build folder can be written");
 }
 
-/// `mod` items with the copies' full paths: `#[path]` takes no expression, so they are generated.
-fn declarations(copies: &Path) -> String {
-    FLOW_MODULES
-        .iter()
-        .map(|module| {
-            let path = copies.join(format!("{module}.rs"));
-            format!(
-                "#[path = {:?}]\npub mod {module};\n",
-                path.display().to_string()
-            )
-        })
-        .collect()
+/// A `mod` item with the copy's full path: `#[path]` takes no expression, so it is generated.
+fn declaration(copies: &Path) -> String {
+    let root = copies.join("mod.rs").display().to_string();
+    format!("#[path = {root:?}]\n#[allow(dead_code)]\npub mod flow;\n")
 }
 
 fn give_up(file: &Path, reason: &str) -> ! {

@@ -1,13 +1,5 @@
 // Our own lines for keys: `k KEY REVERSED FORGOTTEN S0 S1 S2 S7 S4096 SMAX NAME VERSION BOTHWAYS
 // PORTS SPI GRE` and `q HEX ANSWER`.
-use crate::fields::Hex;
-use crate::fields::field;
-use crate::fields::parse_hex;
-use crate::fields::part;
-use crate::line::put;
-use crate::line::put_decimal;
-use crate::line::put_hex;
-use crate::line::unreadable;
 use forms::optional::OptU8;
 use forms::optional::OptU16;
 use forms::optional::OptU32;
@@ -18,6 +10,14 @@ use key::form::write_key;
 use key::key::Endpoints;
 use key::key::FlowKey;
 use key::key::OptPorts;
+use listing::fields::Hex;
+use listing::fields::field;
+use listing::fields::parse_hex;
+use listing::fields::part;
+use listing::line::put;
+use listing::line::put_decimal;
+use listing::line::put_hex;
+use listing::line::unreadable;
 
 // Our line for bytes from which a key is to be read: all about the key, or why there is none.
 pub fn read(line: &[u8], out: &mut [u8]) -> usize {

@@ -1,5 +1,8 @@
 // How many lines of each kind there were, and how many of all differ.
-use crate::line::print as say;
+use listing::line::print as say;
+use listing::tally::one_more;
+use listing::tally::print_count;
+use listing::tally::print_verdict;
 
 pub struct Tally {
     pub numbers: u64,
@@ -44,11 +47,6 @@ impl Tally {
     }
 }
 
-// No list is so long that a count ends at the top.
-fn one_more(n: u64) -> u64 {
-    if n < 0xffff_ffff_ffff_ffff { n + 1 } else { n }
-}
-
 pub fn print(tally: Tally) {
     if is_empty(tally) {
         say(b"no lines\n");
@@ -58,12 +56,7 @@ pub fn print(tally: Tally) {
     print_count(b", refusals ", tally.refusals);
     print_count(b", keys ", tally.keys);
     print_count(b", cuts ", tally.cuts);
-    if tally.differ == 0 {
-        say(b": all agree\n");
-    } else {
-        print_count(b": ", tally.differ);
-        say(b" differ\n");
-    }
+    print_verdict(tally.differ);
 }
 
 fn is_empty(tally: Tally) -> bool {
@@ -72,9 +65,4 @@ fn is_empty(tally: Tally) -> bool {
         & (tally.keys == 0)
         & (tally.cuts == 0)
         & (tally.differ == 0)
-}
-
-fn print_count(name: &[u8], n: u64) {
-    say(name);
-    io::print_decimal(libc::STDOUT_FILENO, n);
 }

@@ -4,9 +4,7 @@
 
 use std::net::IpAddr;
 
-use crate::flow::encapsulation::Encapsulation;
-use crate::flow::key::{Endpoints, FlowKey};
-use crate::flow::vlan::VlanTags;
+use crate::flow::{Encapsulation, Endpoints, FlowKey, VlanTags};
 
 /// The refusal "Packet": no form begins the bytes, and they are no beginning of one.
 pub const PACKET: u8 = 4;
@@ -72,7 +70,7 @@ fn value_of(groups: &[u8]) -> u128 {
     })
 }
 
-/// A part of a key's form, named so that a list can put another in its place.
+/// A part of a form, named so that a list can put another in its place.
 #[derive(Clone)]
 pub struct Field {
     pub name: &'static str,
@@ -160,7 +158,7 @@ fn encapsulation(encapsulation: Option<Encapsulation>) -> Vec<Field> {
     ]
 }
 
-fn numbered(name: &'static str, value: u128) -> Field {
+pub fn numbered(name: &'static str, value: u128) -> Field {
     Field {
         name,
         bytes: number(value),
@@ -168,7 +166,7 @@ fn numbered(name: &'static str, value: u128) -> Field {
 }
 
 /// 0 where it is absent, else the value plus 1.
-fn optional(name: &'static str, value: Option<u128>) -> Field {
+pub fn optional(name: &'static str, value: Option<u128>) -> Field {
     numbered(name, value.map_or(0, |value| value + 1))
 }
 

@@ -1,4 +1,4 @@
--- `vectors::replay` is safe and ends. The loop's invariant: `line` keeps its length. The measure is the number of turns that are left.
+-- `vectors::replay` is safe and ends. The loop's invariant: `chunk` and `line` keep their lengths. The measure is the number of turns that are left.
 -- Assumes nothing.
 use mathlib.Core.Path.{_≡_}
 use lib.ListN.{length}
@@ -7,19 +7,25 @@ use Rattle.vectors.proofs.replay.Statement.{statement}
 use Rattle.vectors.proofs.replay.Tie as tie
 
 abbrev Inv-loop : tie.InvT-loop
-Inv-loop line₀ progress₀ turns₀ line progress turns = length line ≡ length line₀
+Inv-loop chunk₀ line₀ input₀ tally₀ turns₀ chunk line input tally turns = (length chunk ≡ length chunk₀) × (length line ≡ length line₀)
 
 abbrev μ-loop : tie.MeasureT-loop
-μ-loop line₀ progress₀ turns₀ line progress turns = turns
+μ-loop chunk₀ line₀ input₀ tally₀ turns₀ chunk line input tally turns = turns
 
 new-requires : tie.Need-new-requires Inv-loop μ-loop
 new-requires c κs = search needs
 
+new-requires-2 : tie.Need-new-requires-2 Inv-loop μ-loop
+new-requires-2 c κs = search needs
+
 loop-holds : tie.Need-loop-holds Inv-loop μ-loop
 loop-holds c = search needs
 
-take-some-requires : tie.Need-take-some-requires Inv-loop μ-loop
-take-some-requires c κs = search needs
+next-line-requires : tie.Need-next-line-requires Inv-loop μ-loop
+next-line-requires c κs = search needs
+
+take-found-requires : tie.Need-take-found-requires Inv-loop μ-loop
+take-found-requires c κs = search needs
 
 sub-turns : tie.Need-sub-turns Inv-loop μ-loop
 sub-turns c = search needs
@@ -33,17 +39,17 @@ loop-again c = search needs
 same-length : tie.Need-same-length Inv-loop μ-loop
 same-length c = search needs
 
+same-length-2 : tie.Need-same-length-2 Inv-loop μ-loop
+same-length-2 c = search needs
+
 returns : tie.Need-returns Inv-loop μ-loop
 returns c = search needs
 
-part-requires : tie.Need-part-requires Inv-loop μ-loop
-part-requires c κs = search needs
+same-length-3 : tie.Need-same-length-3 Inv-loop μ-loop
+same-length-3 c = search needs
 
-take-line-requires : tie.Need-take-line-requires Inv-loop μ-loop
-take-line-requires c κs = search needs
-
-same-length-2 : tie.Need-same-length-2 Inv-loop μ-loop
-same-length-2 c = search needs
+same-length-4 : tie.Need-same-length-4 Inv-loop μ-loop
+same-length-4 c = search needs
 
 returns-2 : tie.Need-returns-2 Inv-loop μ-loop
 returns-2 c = search needs
@@ -55,14 +61,16 @@ replay-spec =
     Inv-loop
     μ-loop
     new-requires
+    new-requires-2
     loop-holds
-    take-some-requires
+    next-line-requires
+    take-found-requires
     sub-turns
     loop-less
     loop-again
     same-length
-    returns
-    part-requires
-    take-line-requires
     same-length-2
+    returns
+    same-length-3
+    same-length-4
     returns-2)

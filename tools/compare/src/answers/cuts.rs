@@ -1,16 +1,10 @@
 //! Bytes that are no key: cut keys, and keys with one field out of its range.
 
+use crate::answers::wrong::{self, Refused, WrongNumber};
 use crate::answers::{keys, lines};
-use crate::flow::key::FlowKey;
+use crate::flow::FlowKey;
 use crate::forms::{self, Field, PACKET, SHORT};
 use crate::random::Random;
-
-/// A field of a key, the greatest number that it takes, and one that it does not take.
-struct WrongNumber {
-    field: &'static str,
-    most: u64,
-    value: u128,
-}
 
 /// `q` lines.
 pub fn refused(random: &mut Random) -> Vec<String> {
@@ -18,11 +12,24 @@ pub fn refused(random: &mut Random) -> Vec<String> {
     for key in [keys::plainest(), keys::typical(random), keys::longest()] {
         list.extend(every_cut(&key));
     }
-    for wrong in wrong_numbers() {
-        list.extend(with_a_wrong_number(&key_with(wrong.field), &wrong));
+    list.extend(
+        out_of_range()
+            .iter()
+            .map(|(bytes, answer)| lines::refused_key(bytes, *answer)),
+    );
+    list
+}
+
+/// Keys with one field out of its range.
+fn out_of_range() -> Vec<Refused> {
+    let mut list = Vec::new();
+    for number in wrong_numbers() {
+        let fields = key_with(number.field);
+        list.extend(wrong::with_a_wrong_number(&fields, &number, PACKET));
     }
     for (field, bytes) in never_a_number() {
-        list.extend(with_bytes_instead(&key_with(field), field, bytes));
+        let fields = key_with(field);
+        list.extend(wrong::with_bytes_instead(&fields, field, bytes, PACKET));
     }
     list
 }
@@ -81,42 +88,11 @@ fn never_a_number() -> [(&'static str, &'static [u8]); 12] {
     ]
 }
 
-/// A short key that has the field.
-fn key_with(field: &str) -> FlowKey {
+/// The form of a short key that has the field.
+fn key_with(field: &str) -> Vec<Field> {
     keys::shortest_of_each_kind()
-        .into_iter()
-        .find(|key| place_of(&forms::key_fields(key), field).is_some())
+        .iter()
+        .map(forms::key_fields)
+        .find(|fields| wrong::has(fields, field))
         .expect("some key has the field")
-}
-
-fn place_of(fields: &[Field], name: &str) -> Option<usize> {
-    fields.iter().position(|field| field.name == name)
-}
-
-/// The bytes are refused once the wrong number is whole. A cut of it is judged as any number's is.
-fn with_a_wrong_number(key: &FlowKey, wrong: &WrongNumber) -> Vec<String> {
-    let form = forms::number(wrong.value);
-    let before = bytes_before(key, wrong.field);
-    let mut list = Vec::new();
-    for end in 1..form.len() {
-        let cut = &form[..end];
-        let answer = forms::number_refusal(cut, wrong.most).expect("the number is cut");
-        list.push(lines::refused_key(&[&before, cut].concat(), answer));
-    }
-    list.extend(with_bytes_instead(key, wrong.field, &form));
-    list
-}
-
-/// No key begins with what stands before the field and these bytes, whether the rest follows or not.
-fn with_bytes_instead(key: &FlowKey, field: &str, wrong: &[u8]) -> [String; 2] {
-    let mut fields = forms::key_fields(key);
-    let place = place_of(&fields, field).expect("the key has the field");
-    fields[place].bytes = wrong.to_vec();
-    [&fields[..=place], &fields[..]].map(|part| lines::refused_key(&forms::join(part), PACKET))
-}
-
-fn bytes_before(key: &FlowKey, field: &str) -> Vec<u8> {
-    let fields = forms::key_fields(key);
-    let place = place_of(&fields, field).expect("the key has the field");
-    forms::join(&fields[..place])
 }

@@ -2,11 +2,9 @@
 
 use std::net::{IpAddr, Ipv4Addr, Ipv6Addr};
 
-use crate::flow::encapsulation::{EncapKind, Encapsulation};
-use crate::flow::key::{Endpoints, FlowKey};
-use crate::flow::link::MacAddress;
-use crate::flow::vlan::VlanTags;
-use crate::flow::ETHERTYPE_ARP;
+use crate::flow::{
+    EncapKind, Encapsulation, Endpoints, FlowKey, MacAddress, VlanTags, ETHERTYPE_ARP,
+};
 use crate::random::Random;
 
 const KINDS: [EncapKind; 7] = [
@@ -288,7 +286,7 @@ fn same_both_ways(endpoints: Endpoints) -> Endpoints {
     }
 }
 
-fn any_key(random: &mut Random) -> FlowKey {
+pub fn any_key(random: &mut Random) -> FlowKey {
     let (source_is_v6, destination_is_v6) = random.one_of(&FAMILIES);
     let (kind, tags, turn) = (random.below(4), random.below(3), random.below(3));
     FlowKey {

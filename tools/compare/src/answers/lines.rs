@@ -1,7 +1,9 @@
 //! One answer a line: fields with one space between them, bytes in lower-case hex, numbers in decimal.
 
-use crate::flow::key::FlowKey;
+use crate::answers::folds::Fold;
+use crate::flow::{Direction, FlowKey, TimeResolution};
 use crate::forms;
+use crate::records::{self, Packet};
 
 /// What stands for a missing or an empty value.
 const NOTHING: &str = "-";
@@ -64,6 +66,66 @@ fn names(key: &FlowKey) -> [String; 6] {
         or_nothing(ends.security_association()),
         or_nothing(ends.gre_protocol()),
     ]
+}
+
+/// `p HEX`
+pub fn packet(packet: &Packet) -> String {
+    format!("p {}", hex(&records::packet(packet)))
+}
+
+/// `y HEX ANSWER`
+pub fn refused_packet(bytes: &[u8], answer: u8) -> String {
+    format!("y {} {answer}", hex(bytes))
+}
+
+/// `f RESOLUTION DIRECTIONS PACKETS RECORD`
+pub fn fold(fold: &Fold) -> String {
+    let resolution = match fold.resolution {
+        TimeResolution::Microseconds => 0,
+        TimeResolution::Nanoseconds => 1,
+    };
+    let directions: String = fold.packets.iter().map(|(way, _)| letter(*way)).collect();
+    let packets: Vec<String> = fold
+        .packets
+        .iter()
+        .map(|(_, packet)| hex(&records::packet(packet)))
+        .collect();
+    let record = records::record(&fold.key(), &fold.record());
+    format!(
+        "f {resolution} {directions} {} {}",
+        packets.join(","),
+        hex(&record)
+    )
+}
+
+fn letter(direction: Direction) -> char {
+    match direction {
+        Direction::Forward => 'f',
+        Direction::Reverse => 'r',
+    }
+}
+
+/// `t RECORD PACKETS OCTETS BOTHWAYS DURATION`
+pub fn totals(fold: &Fold) -> String {
+    let record = fold.record();
+    format!(
+        "t {} {} {} {} {}",
+        hex(&records::record(&fold.key(), &record)),
+        record.packets(),
+        record.frame_octets(),
+        u8::from(record.is_bidirectional()),
+        record.time.duration()
+    )
+}
+
+/// `r HEX`
+pub fn sound_record(bytes: &[u8]) -> String {
+    format!("r {}", hex(bytes))
+}
+
+/// `x HEX ANSWER`
+pub fn refused_record(bytes: &[u8], answer: u8) -> String {
+    format!("x {} {answer}", hex(bytes))
 }
 
 fn or_nothing<T: ToString>(value: Option<T>) -> String {

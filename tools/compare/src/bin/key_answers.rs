@@ -1,7 +1,6 @@
 //! Prints the list of known answers for numbers and keys.
 
-use std::collections::HashSet;
-
+use compare::answers::sections::Sections;
 use compare::answers::{cuts, keys, lines, numbers};
 use compare::random::Random;
 
@@ -35,41 +34,20 @@ A line is one answer. Its fields have one space between them; bytes are in hex, 
 
 fn main() {
     let mut random = Random::new(SEED);
-    for line in HEADER.lines() {
-        println!("{}", format!("# {line}").trim_end());
-    }
-    println!("#\n# The keys and numbers that are not chosen by hand come from SplitMix64 with the seed {SEED}.");
-
-    let mut printed = HashSet::new();
-    section("Numbers", numbers::written(&mut random), &mut printed);
-    section(
-        "Numbers that are not written",
-        numbers::refused_writing(),
-        &mut printed,
-    );
-    section(
+    let mut list = Sections::under(HEADER);
+    list.comment("");
+    list.comment(&format!(
+        "The keys and numbers that are not chosen by hand come from SplitMix64 with the seed {SEED}."
+    ));
+    list.print("Numbers", numbers::written(&mut random));
+    list.print("Numbers that are not written", numbers::refused_writing());
+    list.print(
         "Bytes that are no number",
         numbers::refused_reading(&mut random),
-        &mut printed,
     );
-    section(
+    list.print(
         "Keys",
         keys::chosen(&mut random).iter().map(lines::key).collect(),
-        &mut printed,
     );
-    section(
-        "Bytes that are no key",
-        cuts::refused(&mut random),
-        &mut printed,
-    );
-}
-
-/// Prints the lines under a title, each once: some are the edge of two things.
-fn section(title: &str, list: Vec<String>, printed: &mut HashSet<String>) {
-    println!("#\n# {title}");
-    for line in list {
-        if printed.insert(line.clone()) {
-            println!("{line}");
-        }
-    }
+    list.print("Bytes that are no key", cuts::refused(&mut random));
 }

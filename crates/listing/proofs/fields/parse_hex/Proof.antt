@@ -1,11 +1,11 @@
--- `vectors::fields::parse_hex` is safe and ends. The loop's invariant: `out` keeps its length. The measure is how many bytes are left.
+-- `listing::fields::parse_hex` is safe and ends. The loop's invariant: `out` keeps its length. The measure is how many bytes are left.
 -- Assumes nothing.
 use Prim.Native.Nat.{_-_}
 use mathlib.Core.Path.{_≡_}
 use lib.ListN.{length}
 use borrow.Author.Needs.{needs}
-use Rattle.vectors.proofs.fields.parse_hex.Statement.{statement}
-use Rattle.vectors.proofs.fields.parse_hex.Tie as tie
+use Rattle.listing.proofs.fields.parse_hex.Statement.{statement}
+use Rattle.listing.proofs.fields.parse_hex.Tie as tie
 
 abbrev Inv-loop : tie.InvT-loop
 Inv-loop s out₀ count i₀ out i = length out ≡ length out₀

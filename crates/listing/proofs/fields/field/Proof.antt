@@ -1,8 +1,8 @@
--- `vectors::fields::field` is safe and ends. The measure is the number of fields that are left to pass, and nothing has to hold from turn to turn.
+-- `listing::fields::field` is safe and ends. The measure is the number of fields that are left to pass, and nothing has to hold from turn to turn.
 -- Assumes nothing.
 use borrow.Author.Needs.{needs}
-use Rattle.vectors.proofs.fields.field.Statement.{statement}
-use Rattle.vectors.proofs.fields.field.Tie as tie
+use Rattle.listing.proofs.fields.field.Statement.{statement}
+use Rattle.listing.proofs.fields.field.Tie as tie
 
 abbrev Inv-loop : tie.InvT-loop
 Inv-loop line number from₀ left₀ from left = Unit {0}

@@ -1,26 +1,26 @@
--- `vectors::line::put_bytes` is safe and ends. The loop's invariant: `out` keeps its length. The measure is how many bytes are left.
+-- `folds::fold::without_commas` is safe and ends. The loop's invariant: `out` keeps its length. The measure is how many bytes are left.
 -- Assumes nothing.
 use Prim.Native.Nat.{_-_}
 use mathlib.Core.Path.{_≡_}
 use lib.ListN.{length}
 use borrow.Author.Needs.{needs}
-use Rattle.vectors.proofs.line.put_bytes.Statement.{statement}
-use Rattle.vectors.proofs.line.put_bytes.Tie as tie
+use Rattle.folds.proofs.fold.without_commas.Statement.{statement}
+use Rattle.folds.proofs.fold.without_commas.Tie as tie
 
 abbrev Inv-loop : tie.InvT-loop
-Inv-loop out₀ from bytes at₀ i₀ out at i = length out ≡ length out₀
+Inv-loop s out₀ at₀ i₀ out at i = length out ≡ length out₀
 
 abbrev μ-loop : tie.MeasureT-loop
-μ-loop out₀ from bytes at₀ i₀ out at i = length bytes - i
+μ-loop s out₀ at₀ i₀ out at i = length s - i
 
 loop-holds : tie.Need-loop-holds Inv-loop μ-loop
 loop-holds c = search needs
 
-shared-slice-read-put-byte : tie.Need-shared-slice-read-put-byte Inv-loop μ-loop
-shared-slice-read-put-byte c = search needs
+shared-slice-read-put-digit : tie.Need-shared-slice-read-put-digit Inv-loop μ-loop
+shared-slice-read-put-digit c = search needs
 
-put-byte-requires : tie.Need-put-byte-requires Inv-loop μ-loop
-put-byte-requires c κs = search needs
+put-digit-requires : tie.Need-put-digit-requires Inv-loop μ-loop
+put-digit-requires c κs = search needs
 
 add-i : tie.Need-add-i Inv-loop μ-loop
 add-i c = search needs
@@ -37,15 +37,15 @@ same-length c = search needs
 returns : tie.Need-returns Inv-loop μ-loop
 returns c = search needs
 
-pub put-bytes-spec : {M : Type 1} → statement M
-put-bytes-spec =
+pub without-commas-spec : {M : Type 1} → statement M
+without-commas-spec =
     tie.close
     (tie.spec
     Inv-loop
     μ-loop
     loop-holds
-    shared-slice-read-put-byte
-    put-byte-requires
+    shared-slice-read-put-digit
+    put-digit-requires
     add-i
     loop-less
     loop-again

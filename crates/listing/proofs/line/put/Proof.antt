@@ -1,11 +1,11 @@
--- `vectors::line::put` is safe and ends. The loop's invariant: `out` keeps its length. The measure is what is left of the text.
+-- `listing::line::put` is safe and ends. The loop's invariant: `out` keeps its length. The measure is what is left of the text.
 -- Assumes nothing.
 use Prim.Native.Nat.{_-_}
 use mathlib.Core.Path.{_≡_}
 use lib.ListN.{length}
 use borrow.Author.Needs.{needs}
-use Rattle.vectors.proofs.line.put.Statement.{statement}
-use Rattle.vectors.proofs.line.put.Tie as tie
+use Rattle.listing.proofs.line.put.Statement.{statement}
+use Rattle.listing.proofs.line.put.Tie as tie
 
 abbrev Inv-loop : tie.InvT-loop
 Inv-loop out₀ from text at₀ i₀ out at i = length out ≡ length out₀

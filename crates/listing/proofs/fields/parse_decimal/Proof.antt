@@ -1,10 +1,10 @@
--- `vectors::fields::parse_decimal` is safe and ends. The measure is what is left of the digits. `with_digit` sees to it that no number is too large, so nothing has to hold from turn to turn.
+-- `listing::fields::parse_decimal` is safe and ends. The measure is what is left of the digits. `with_digit` sees to it that no number is too large, so nothing has to hold from turn to turn.
 -- Assumes nothing.
 use Prim.Native.Nat.{_-_}
 use lib.ListN.{length}
 use borrow.Author.Needs.{needs}
-use Rattle.vectors.proofs.fields.parse_decimal.Statement.{statement}
-use Rattle.vectors.proofs.fields.parse_decimal.Tie as tie
+use Rattle.listing.proofs.fields.parse_decimal.Statement.{statement}
+use Rattle.listing.proofs.fields.parse_decimal.Tie as tie
 
 abbrev Inv-loop : tie.InvT-loop
 Inv-loop s value₀ i₀ value i = Unit {0}

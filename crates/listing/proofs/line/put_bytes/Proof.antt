@@ -1,26 +1,26 @@
--- `vectors::take_bytes` is safe and ends. The loop's invariant: `line` keeps its length. The measure is how many bytes are left.
+-- `listing::line::put_bytes` is safe and ends. The loop's invariant: `out` keeps its length. The measure is how many bytes are left.
 -- Assumes nothing.
 use Prim.Native.Nat.{_-_}
 use mathlib.Core.Path.{_≡_}
 use lib.ListN.{length}
 use borrow.Author.Needs.{needs}
-use Rattle.vectors.proofs.take_bytes.Statement.{statement}
-use Rattle.vectors.proofs.take_bytes.Tie as tie
+use Rattle.listing.proofs.line.put_bytes.Statement.{statement}
+use Rattle.listing.proofs.line.put_bytes.Tie as tie
 
 abbrev Inv-loop : tie.InvT-loop
-Inv-loop bytes line₀ progress₀ i₀ line progress i = length line ≡ length line₀
+Inv-loop out₀ from bytes at₀ i₀ out at i = length out ≡ length out₀
 
 abbrev μ-loop : tie.MeasureT-loop
-μ-loop bytes line₀ progress₀ i₀ line progress i = length bytes - i
+μ-loop out₀ from bytes at₀ i₀ out at i = length bytes - i
 
 loop-holds : tie.Need-loop-holds Inv-loop μ-loop
 loop-holds c = search needs
 
-shared-slice-read-take-byte : tie.Need-shared-slice-read-take-byte Inv-loop μ-loop
-shared-slice-read-take-byte c = search needs
+shared-slice-read-put-byte : tie.Need-shared-slice-read-put-byte Inv-loop μ-loop
+shared-slice-read-put-byte c = search needs
 
-take-byte-requires : tie.Need-take-byte-requires Inv-loop μ-loop
-take-byte-requires c κs = search needs
+put-byte-requires : tie.Need-put-byte-requires Inv-loop μ-loop
+put-byte-requires c κs = search needs
 
 add-i : tie.Need-add-i Inv-loop μ-loop
 add-i c = search needs
@@ -37,15 +37,15 @@ same-length c = search needs
 returns : tie.Need-returns Inv-loop μ-loop
 returns c = search needs
 
-pub take-bytes-spec : {M : Type 1} → statement M
-take-bytes-spec =
+pub put-bytes-spec : {M : Type 1} → statement M
+put-bytes-spec =
     tie.close
     (tie.spec
     Inv-loop
     μ-loop
     loop-holds
-    shared-slice-read-take-byte
-    take-byte-requires
+    shared-slice-read-put-byte
+    put-byte-requires
     add-i
     loop-less
     loop-again

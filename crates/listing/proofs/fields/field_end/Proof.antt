@@ -1,10 +1,10 @@
--- `vectors::fields::field_end` is safe and ends. The measure is what is left of the line, and nothing has to hold from turn to turn.
+-- `listing::fields::field_end` is safe and ends. The measure is what is left of the line, and nothing has to hold from turn to turn.
 -- Assumes nothing.
 use Prim.Native.Nat.{_-_}
 use lib.ListN.{length}
 use borrow.Author.Needs.{needs}
-use Rattle.vectors.proofs.fields.field_end.Statement.{statement}
-use Rattle.vectors.proofs.fields.field_end.Tie as tie
+use Rattle.listing.proofs.fields.field_end.Statement.{statement}
+use Rattle.listing.proofs.fields.field_end.Tie as tie
 
 abbrev Inv-loop : tie.InvT-loop
 Inv-loop line from at₀ at = Unit {0}
