@@ -1,4 +1,5 @@
--- The mission's third demand, through any calls from a fresh engine: `demand`, at the end. Assumes nothing.
+-- The mission's third demand over any terms, through any calls from fresh: `demand`, at the end. EngineDemand.antt has it of the
+-- engine. Assumes nothing.
 use mathlib.Core.Path.{_≡_, refl, sym, ap, _∙_, subst, subst⁻¹, fun-ext}
 use mathlib.Core.Bool.{Bool, true, false, cond}
 use mathlib.Core.List.{List, [], _∷_, _++_, map, append-assoc}

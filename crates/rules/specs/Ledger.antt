@@ -4,7 +4,7 @@ use mathlib.Core.Path.{_≡_, refl, sym, ap, _∙_}
 use mathlib.Core.Bool.{Bool, true, false, not, cond}
 use mathlib.Core.List.{List, [], _∷_, _++_, map}
 use mathlib.Core.Option.{Option, none, some}
-use Prim.Native.Nat.{ℕ, _+_, _-_, suc}
+use Prim.Native.Nat.{ℕ, _-_, suc}
 use lib.Dec.{leb}
 use lib.ListN.{length}
 use Rattle.rules.specs.Order.{atMost, equal, insert, sort, those}

@@ -15,3 +15,5 @@ pub mod Sound
 pub mod EngineLaws
 pub mod EngineSound
 pub mod EngineDemand
+pub mod EngineSlots
+pub mod Batch

@@ -83,7 +83,7 @@ module _ (W : Terms) where
   abbrev pub Clear : R.Flow W → R.Flow W → Type 0
   Clear f g = (equal (R.byKey W f) (R.byKey W g) ≡ false) × Unturned f g × Unturned g f
 
-  clear-flip : (f g : R.Flow W) → Clear f g → Clear g f
+  pub clear-flip : (f g : R.Flow W) → Clear f g → Clear g f
   clear-flip f g c = (equal-sym (R.byKey W f) (R.byKey W g) false (c .0), c .2, c .1)
 
   -- ## The flow under a key, and the others
@@ -181,18 +181,18 @@ module _ (W : Terms) where
           go (R.under W (R.keyOf W p) l) refl (member l a (R.keyOf W p)) (any-under W Fine l g (R.keyOf W p)) (W .association (W .key p)) refl
           (R.under W (R.reversedOf W p) l) refl (member l a (R.reversedOf W p)) (any-under W Fine l g (R.reversedOf W p)) (keyed l a (R.reversedOf W p))
         where
-          opened : W .Key → All (λ x. equal (R.keyOf W p) (R.byKey W x) ≡ false) l
+          opened : All (λ x. equal (R.keyOf W p) (R.byKey W x) ≡ false) l
               → (W .association (W .key p) ≡ false → All (λ x. equal (R.reversedOf W p) (R.byKey W x) ≡ false) l) → All (Clear (R.taking W s p R.new)) l
-          opened k b c = new-clear (R.taking W s p R.new) (held .ranged p ok) l (names l g) b c
+          opened b c = new-clear (R.taking W s p R.new) (held .ranged p ok) l (names l g) b c
 
           go : (o : Option (R.Flow W)) → R.under W (R.keyOf W p) l ≡ o → Any W (Member l) o → Any W Fine o → (b : Bool) → W .association (W .key p) ≡ b
               → (q : Option (R.Flow W)) → R.under W (R.reversedOf W p) l ≡ q → Any W (Member l) q → Any W Fine q → Any W (λ f. R.reversedOf W p ≡ R.byKey W f) q
               → Fit p l (R.chosen W o b q)
           go (some f) e m h b k q e′ m′ h′ z = (m, h, tt)
-          go none e m h true k q e′ m′ h′ z = opened (W .key p) (absent (R.keyOf W p) l e) (λ n. clash k n)
+          go none e m h true k q e′ m′ h′ z = opened (absent (R.keyOf W p) l e) (λ n. clash k n)
           go none e m h false k (some f) e′ m′ h′ z =
               (m′, h′, sym (laws .kind (W .key p) (f .name) (held .ranged p ok) (held .named (f .name) (f .held) h′) z) ∙ k)
-          go none e m h false k none e′ m′ h′ z = opened (W .key p) (absent (R.keyOf W p) l e) (λ n. absent (R.reversedOf W p) l e′)
+          go none e m h false k none e′ m′ h′ z = opened (absent (R.keyOf W p) l e) (λ n. absent (R.reversedOf W p) l e′)
 
       -- what sound means of the open flows: clear of each other, each fine, and within the capacity
       abbrev pub Flows : List (R.Flow W) → Type 0

@@ -6,7 +6,7 @@ use lib.ListN.{length}
 use Rattle.forms.specs.Form.{raw, raw-zero, raw-one-writes, raw-writes}
 use Rattle.forms.specs.Number.{numberBytes}
 use Rattle.forms.specs.Optional.{number8, number16, number32}
-use Rattle.key.specs.KeyForm.{key, endpoints, address, mac, vlan, encapsulation}
+use Rattle.key.specs.KeyForm.{endpoints, address, mac, vlan, encapsulation}
 use Rattle.key.specs.KeyWrite.{none-writes, ports-writes, association-writes, gre-writes, v4-writes, v6-writes, mac-writes, untagged-writes, single-writes, double-writes, no-tunnel-writes, tunnel-writes, key-writes}
 use Rattle.key.specs.declared.key.Address.{Address}
 use Rattle.key.specs.declared.key.Address.the-variants.{V4, V6}

@@ -1,4 +1,4 @@
--- Document 01's "Examples on each side", P1 to P11, as one statement over a table, with rows of ours behind them. Each row opens an
+-- Document 01's "Examples on each side", P1 to P11, as one statement over a table, `examples-hold`; and rows of ours, `further-hold`. Each row opens an
 -- engine, makes calls, and says after each call what was answered and which flows are open. Assumes nothing.
 use mathlib.Core.Path.{subst}
 use mathlib.Core.Bool.{Bool, true, false, _&&_}
@@ -231,10 +231,10 @@ held packets octets fins back captured = record {
   capture = record { «captured_octets» = captured; truncated = false };
 }
 
--- ## The table
+-- ## Document 01's examples
 
-pub table : List Row
-table =
+pub examples : List Row
+examples =
     -- P1 timeout 0, sweep at 2^64 − 1: none leaves.
     plays 0 8 (fed (ack 0 1 2 ∷ []) 1 [] (1 ∷ []) 0 ∷ swept (2 ^ 64 - 1) [] (1 ∷ []) 0 ∷ [])
     -- P2 1 ms, end 0: stays at 1,499,999, leaves at 1,500,000.
@@ -277,9 +277,14 @@ table =
     -- P11 capacity 1, one open flow that stays: another conversation is Full; a SYN after its two FINs is accepted.
     ∷ plays 1000 1 (stops ample (ack 0 1 2 ∷ ack 1 3 4 ∷ []) Accepted Full 1 1 [] (1 ∷ []) 0 ∷ [])
     ∷ plays 1000 1 (fed (fin 0 1 2 ∷ fin 1 2 1 ∷ syn 2 1 2 ∷ []) 2 (out MidStream Fin 0 1 1 1 60 60 ∷ []) (1 ∷ []) 2 ∷ [])
-    -- Rows of ours.
+    ∷ []
+
+-- ## Rows of ours
+
+pub further : List Row
+further =
     -- the document's `replay`: Fin 0 400 3 2 168 114
-    ∷ plays 1000 32
+    plays 1000 32
     (fed
     (packetOf 0 60 2 (tcp 1 2) ∷ packetOf 100 60 18 (tcp 2 1) ∷ packetOf 200 54 17 (tcp 1 2) ∷ packetOf 300 54 17 (tcp 2 1) ∷ packetOf 400 54 16 (tcp 1 2) ∷ [])
     1 (out SynObserved Fin 0 400 3 2 168 114 ∷ []) [] 400
@@ -358,24 +363,35 @@ table =
     ∷ plays 1000 8 (stops ample (ack 0 1 2 ∷ []) Short Short 1 1 [] (1 ∷ []) 0 ∷ stops ample [] Accepted Accepted 0 0 [] (1 ∷ []) 0 ∷ [])
     ∷ []
 
-computed : T (allBy keySpelled sizeSpelled table)
-unfolding table onePacket feedAll sweepAt drainAll openedOf countedRest taken countedOf hasRoom closed numberBytes groups
-computed = tt
+-- ## They hold
 
--- every row plays out as it says
-pub table-holds : T (allPass table)
-table-holds =
-    subst (λ (size : FlowKey → EndReason → FlowRecord → ℕ). T (allBy keyBytes size table)) sizes-spelled
-    (subst (λ (bytes : FlowKey → List ℕ). T (allBy bytes sizeSpelled table)) keys-spelled computed)
+examples-computed : T (allBy keySpelled sizeSpelled examples)
+unfolding examples onePacket feedAll sweepAt drainAll openedOf countedRest taken countedOf hasRoom closed numberBytes groups
+examples-computed = tt
+
+further-computed : T (allBy keySpelled sizeSpelled further)
+unfolding further onePacket feedAll sweepAt drainAll openedOf countedRest taken countedOf hasRoom closed numberBytes groups
+further-computed = tt
+
+-- the key form and the record form are what they are spelled
+as-spelled : (rows : List Row) → T (allBy keySpelled sizeSpelled rows) → T (allPass rows)
+as-spelled rows t =
+    subst (λ (size : FlowKey → EndReason → FlowRecord → ℕ). T (allBy keyBytes size rows)) sizes-spelled
+    (subst (λ (bytes : FlowKey → List ℕ). T (allBy bytes sizeSpelled rows)) keys-spelled t)
+
+-- P1 to P11: every row plays out on the engine as it says
+pub examples-hold : T (allPass examples)
+examples-hold = as-spelled examples examples-computed
+
+-- and so do ours
+pub further-hold : T (allPass further)
+further-hold = as-spelled further further-computed
 
 both-hold : (a b : Bool) → T (a && b) → T a × T b
 both-hold true b t = (tt, t)
 both-hold false b t = absurd t
 
-each-row : (rows : List Row) → T (allPass rows) → All (λ r. T (passes r)) rows
+-- where all of a table's rows pass, each does
+pub each-row : (rows : List Row) → T (allPass rows) → All (λ r. T (passes r)) rows
 each-row [] t = tt
 each-row (r ∷ rs) t = let h = both-hold (passes r) (allPass rs) t in (h .0, each-row rs (h .1))
-
--- and so each of them
-pub rows-hold : All (λ r. T (passes r)) table
-rows-hold = each-row table table-holds
