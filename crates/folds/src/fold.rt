@@ -1,4 +1,4 @@
-// Our own lines for packets that are counted on a record: `f RESOLUTION DIRECTIONS PACKETS RECORD`.
+// Our own lines for packets that are counted on a record: `f RESOLUTION REASON DIRECTIONS PACKETS RECORD`.
 use crate::cuts::cuts_of;
 use crate::cuts::record_cuts_short;
 use crate::made::Made;
@@ -12,6 +12,7 @@ use flow::host::begin;
 use flow::host::observed;
 use flow::record::Direction;
 use flow::record::FlowRecord;
+use flow::time::EndReason;
 use flow::time::OptEndReason;
 use flow::time::TimeResolution;
 use listing::fields::Hex;
@@ -46,11 +47,11 @@ pub fn read(line: &[u8], out: &mut [u8]) -> Made {
     let mut digits = [0u8; 4096];
     let mut batch = [0u8; 1024];
     let mut record = [0u8; 512];
-    let n = without_commas(field(line, 3), &mut digits);
+    let n = without_commas(field(line, 4), &mut digits);
     let Hex::Bytes(packets_end) = parse_hex(part(&digits, 0, n), &mut batch) else {
         return uncut(unreadable(line, out));
     };
-    let Hex::Bytes(record_end) = parse_hex(field(line, 4), &mut record) else {
+    let Hex::Bytes(record_end) = parse_hex(field(line, 5), &mut record) else {
         return uncut(unreadable(line, out));
     };
     put_read(
@@ -87,7 +88,7 @@ fn put_read(line: &[u8], out: &mut [u8], batch: &[u8], record: &[u8]) -> Made {
     };
     if is_form_of(record, known, used) {
         return Made {
-            end: put_fold(line, out, batch, known),
+            end: put_fold(line, out, batch),
             cuts: cuts_of(record),
         };
     }
@@ -103,17 +104,39 @@ fn is_form_of(bytes: &[u8], known: Flow, used: usize) -> bool {
     (used == bytes.len()) & records::is_written_as(known, bytes) & record_cuts_short(bytes)
 }
 
-// Only the end reason is taken from the list's record.
-fn put_fold(line: &[u8], out: &mut [u8], batch: &[u8], known: Flow) -> usize {
-    let known_record = known.record;
-    let time = known_record.time;
-    let reason = time.end_reason;
-    let resolution = field(line, 1);
-    let directions = field(line, 2);
+// The end reason that the list names; none for another name, and a record without one is not written.
+fn reason_named(name: &[u8]) -> OptEndReason {
+    if check::same(name, b"idletimeout") {
+        return OptEndReason::Present(EndReason::IdleTimeout);
+    }
+    if check::same(name, b"fin") {
+        return OptEndReason::Present(EndReason::Fin);
+    }
+    if check::same(name, b"rst") {
+        return OptEndReason::Present(EndReason::Rst);
+    }
+    if check::same(name, b"captureend") {
+        return OptEndReason::Present(EndReason::CaptureEnd);
+    }
+    OptEndReason::Absent
+}
+
+// The line's letter and its fields in front of the packets: where they end in `out`.
+fn put_asked(line: &[u8], out: &mut [u8]) -> usize {
     let at = put(out, 0, b"f ");
-    let at = put(out, at, resolution);
+    let at = put(out, at, field(line, 1));
     let at = put(out, at, b" ");
-    let at = put(out, at, directions);
+    let at = put(out, at, field(line, 2));
+    let at = put(out, at, b" ");
+    put(out, at, field(line, 3))
+}
+
+// Nothing is taken from the list's record: it is only compared with.
+fn put_fold(line: &[u8], out: &mut [u8], batch: &[u8]) -> usize {
+    let resolution = field(line, 1);
+    let reason = reason_named(field(line, 2));
+    let directions = field(line, 3);
+    let at = put_asked(line, out);
     if check::same(resolution, b"0") {
         return put_folded(
             directions,

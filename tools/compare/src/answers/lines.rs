@@ -78,7 +78,7 @@ pub fn refused_packet(bytes: &[u8], answer: u8) -> String {
     format!("y {} {answer}", hex(bytes))
 }
 
-/// `f RESOLUTION DIRECTIONS PACKETS RECORD`
+/// `f RESOLUTION REASON DIRECTIONS PACKETS RECORD`
 pub fn fold(fold: &Fold) -> String {
     let resolution = match fold.resolution {
         TimeResolution::Microseconds => 0,
@@ -92,7 +92,8 @@ pub fn fold(fold: &Fold) -> String {
         .collect();
     let record = records::record(&fold.key(), &fold.record());
     format!(
-        "f {resolution} {directions} {} {}",
+        "f {resolution} {} {directions} {} {}",
+        fold.reason.as_str(),
         packets.join(","),
         hex(&record)
     )

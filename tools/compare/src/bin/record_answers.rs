@@ -24,11 +24,12 @@ A line is one answer. Its fields have one space between them; bytes are in hex, 
   p HEX          a packet's form. The program that replays the list also cuts it at every length.
   y HEX ANSWER   reading one packet from HEX is refused: 4 where no packet begins HEX and HEX begins
                  none, 9 where HEX is a proper beginning of one
-  f RESOLUTION DIRECTIONS PACKETS RECORD
+  f RESOLUTION REASON DIRECTIONS PACKETS RECORD
                  a record begun with the first of the packets and counted on with the others has this
                  form once it is closed, under the first packet's key. RESOLUTION is 0 for microseconds,
-                 1 for finer. DIRECTIONS has a letter for each packet: f forward, r reverse. PACKETS are
-                 forms with a comma between them. RECORD, too, is cut at every length.
+                 1 for finer. REASON is the Rust's own name of the end reason. DIRECTIONS has a letter for each
+                 packet: f forward, r reverse. PACKETS are forms with a comma between them. RECORD, too, is cut
+                 at every length.
   t RECORD PACKETS OCTETS BOTHWAYS DURATION
                  what is derived from such a record: the packets and the octets of both directions
                  together; 1 if both have packets, else 0; how long it lasted
