@@ -6,6 +6,9 @@ ghost use Prim.Native.Nat.{_+_, _*_, _≤_, _<_, min};
 ghost use lib.ListN.{length};
 ghost use Rattle.queue.specs.Tree.{node, withNode, Sound, DueSet, LeastDue, Refreshed, Empty};
 
+// The due time of a slot that is in no queue.
+pub const NEVER: u64 = 0xffff_ffff_ffff_ffff;
+
 pub enum Found {
     At(usize),
     Nothing,

@@ -1,0 +1,123 @@
+// Where to begin a search for a key: an index of the table's slots by their keys' hash, in memory that the caller lends.
+// A place is 0 (empty) or an entry: 19 bits of the key's hash, and the slot. When an entry leaves, those behind it move up, so
+// the places taken are those of the used slots and no more.
+use slots::Found;
+ghost use mathlib.Core.Path.{_≡_};
+ghost use Prim.Native.Nat.{_+_, _*_, _≤_, _<_};
+ghost use lib.Dec.{eqb};
+ghost use lib.ListN.{length, getD};
+ghost use Rattle.slots.specs.Table.{slots, holds, firstWhere, NoKeyTwice};
+ghost use Rattle.index.specs.Hash.{hashOf};
+ghost use Rattle.index.specs.Index.{home, entryOf, homeIn, taken, Has, Tight, Indexed, Inserted, Forgotten, FirstPlace};
+
+// The used slot with this key.
+pub fn find(index: &[u32], state: &[u8], capacity: usize, key: &[u8], hash: u64) -> Found
+    requires { ⌜ 256 + 640 * capacity ≤ length (now state) ⌝ }
+    requires { ⌜ Indexed hashOf (now index) (now state) capacity ⌝ }
+    requires { ⌜ NoKeyTwice (now state) capacity ⌝ }
+    requires { ⌜ hash ≡ hashOf (now key) ⌝ }
+    ensures { λ r. ⌜ r ≡ firstWhere (holds (now (key .entry))) 0 (slots (now (state .entry)) capacity) ⌝ }
+{
+    let from = (hash % 8192) as usize;
+    let tag = hash % 524288;
+    'slots: for place in from..16384 {
+        let entry = index[place] as u64;
+        if entry == 0 {
+            return Found::Nothing;
+        }
+        if (entry - 1) / 8192 != tag {
+            continue 'slots;
+        }
+        let i = ((entry - 1) % 8192) as usize;
+        let base = 256 + 624 * i;
+        if state[base] != 1 {
+            continue 'slots;
+        }
+        if state[base + 1] as usize != key.len() {
+            continue 'slots;
+        }
+        for k in 0..key.len() {
+            if state[base + 2 + k] != key[k] {
+                continue 'slots;
+            }
+        }
+        return Found::At(i);
+    }
+    Found::Nothing
+}
+
+// Whether the key's home place is empty: then no slot is used under a key with this hash.
+pub fn home_is_empty(index: &[u32], hash: u64) -> bool
+    requires { ⌜ length (now index) ≡ 16384 ⌝ }
+    ensures { λ r. ⌜ r ≡ eqb (getD (now (index .entry)) (home hash) 0) 0 ⌝ }
+{
+    index[(hash % 8192) as usize] == 0
+}
+
+// The entry of slot i under a key with this hash.
+fn entry_of(hash: u64, i: usize) -> u32
+    requires { ⌜ i < 4096 ⌝ }
+    ensures { λ r. ⌜ r ≡ entryOf hash i ⌝ }
+{
+    (hash % 524288 * 8192 + i as u64 + 1) as u32
+}
+
+// Puts slot i at the first empty place behind its home.
+pub fn insert(index: &mut [u32], i: usize, hash: u64)
+    requires { ⌜ length (now index) ≡ 16384 ⌝ }
+    requires { ⌜ taken (now index) ≤ 8192 ⌝ }
+    requires { ⌜ i < 4096 ⌝ }
+    ensures { λ _. ⌜ Inserted (home hash) (entryOf hash i) (now (index .entry)) (now (index .exit)) ⌝ }
+{
+    let mut place = (hash % 8192) as usize;
+    while index[place] != 0 {
+        place += 1;
+    }
+    index[place] = entry_of(hash, i);
+}
+
+// The first place from `from` on that holds an entry, or 16384.
+fn place_of(index: &[u32], entry: u32, from: usize) -> usize
+    requires { ⌜ length (now index) ≡ 16384 ⌝ }
+    requires { ⌜ from ≤ 16384 ⌝ }
+    ensures { λ r. ⌜ FirstPlace (now (index .entry)) from entry r ⌝ }
+{
+    for place in from..16384 {
+        if index[place] == entry {
+            return place;
+        }
+    }
+    16384
+}
+
+// The home that an entry names.
+fn home_in(entry: u32) -> usize
+    requires { ⌜ 0 < entry ⌝ }
+    ensures { λ r. ⌜ r ≡ homeIn entry ⌝ }
+{
+    ((entry - 1) / 8192 % 8192) as usize
+}
+
+// Takes slot x out of the index. What stands behind it and may stand before its place moves up, so that no empty place
+// comes between an entry and its home.
+pub fn forget(index: &mut [u32], x: usize, hash: u64)
+    requires { ⌜ Tight (now index) ⌝ }
+    requires { ⌜ x < 4096 ⌝ }
+    requires { ⌜ Has (now index) (entryOf hash x) ⌝ }
+    ensures { λ _. ⌜ Forgotten (entryOf hash x) (now (index .entry)) (now (index .exit)) ⌝ }
+{
+    let mut hole = place_of(index, entry_of(hash, x), (hash % 8192) as usize);
+    for place in hole + 1..16384 {
+        let entry = index[place];
+        if entry == 0 {
+            index[hole] = 0;
+            return;
+        }
+        if hole < home_in(entry) {
+            continue;
+        }
+        index[hole] = entry;
+        hole = place;
+    }
+    index[hole] = 0;
+}

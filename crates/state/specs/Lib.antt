@@ -1,0 +1,11 @@
+pub mod Sitting
+pub mod Slot
+pub mod State
+pub mod Free
+pub mod Ready
+pub mod Meaning
+pub mod HeaderTest
+pub mod SlotTest
+pub mod Change
+pub mod Check
+pub mod Opening

@@ -1,0 +1,5 @@
+pub mod Fields
+pub mod Words
+pub mod FieldLaws
+pub mod WordLaws
+pub mod Kept
