@@ -20,6 +20,8 @@ if [ -d "$sources" ]; then
     mkdir -p target
     make_again key_answers vectors
     make_again record_answers folds
+    cargo test --quiet --release --offline --manifest-path tools/compare/Cargo.toml --target-dir target/compare
+    cargo run --quiet --release --offline --manifest-path tools/compare/Cargo.toml --target-dir target/compare --bin engines -- --scripts 2000 --seed 1
 else
     echo "the Rust's sources are not at hand: the lists of known answers are replayed as they stand"
 fi

@@ -12,8 +12,12 @@ const SOURCE_VARIABLE: &str = "BRAIDPUDDLE_RUST_SRC";
 /// Where the sources lie if the variable does not say, as seen from this package: beside the repository.
 const DEFAULT_SOURCE: &str = "../../../shared/docs/src";
 
-/// The folder of the modules, in the folder of sources.
+/// The folder of the record's modules, in the folder of sources.
 const FLOW_FOLDER: &str = "fluereflow/src/flow";
+
+/// The engine, a single file, in the folder of sources.
+const ENGINE_FOLDER: &str = "src/net";
+const ENGINE_FILE: &str = "flow_engine.rs";
 
 /// The whole folder: its root, and the modules that the root declares.
 const FLOW_FILES: [&str; 8] = [
@@ -35,6 +39,7 @@ fn main() {
     for file in FLOW_FILES {
         copy_unchanged(&source.join(FLOW_FOLDER), &copies, file);
     }
+    copy_unchanged(&source.join(ENGINE_FOLDER), &build_folder(), ENGINE_FILE);
     fs::write(build_folder().join("flow_module.rs"), declaration(&copies))
         .expect("cargo's build folder can be written");
 }
@@ -72,6 +77,6 @@ fn give_up(file: &Path, reason: &str) -> ! {
         "The Rust sources are not at hand: {}: {reason}.",
         file.display()
     );
-    eprintln!("Set {SOURCE_VARIABLE} to the folder that holds {FLOW_FOLDER}.");
+    eprintln!("Set {SOURCE_VARIABLE} to the folder that holds {FLOW_FOLDER} and {ENGINE_FOLDER}.");
     std::process::exit(1);
 }

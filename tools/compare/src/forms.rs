@@ -47,11 +47,7 @@ pub fn number_refusal(bytes: &[u8], most: u64) -> Option<u8> {
             let form = &bytes[..=last];
             let value = value_of(form);
             let begins = value <= most && number(value) == form;
-            if begins {
-                None
-            } else {
-                Some(PACKET)
-            }
+            if begins { None } else { Some(PACKET) }
         }
         None if bytes.is_empty() => Some(PACKET),
         // Every number that goes on from here has these groups and at least one bit above them.

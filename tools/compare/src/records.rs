@@ -6,12 +6,12 @@ use crate::flow::{
     DirectionStats, EndReason, FlowKey, FlowRecord, PacketFacts, StartState, TcpFlagCounts,
     TcpFlags, TimeResolution,
 };
-use crate::forms::{self, join, numbered, optional, Field};
+use crate::forms::{self, Field, join, numbered, optional};
 
 /// The refusal "Record": no record form begins the bytes, and they are no beginning of one.
 pub const RECORD: u8 = 8;
 
-/// What a probe hands in. The Rust has these in its PacketObservation, which is not built here.
+/// What a probe hands in. The Rust has these, and more, in its PacketObservation.
 #[derive(Clone, Copy)]
 pub struct Packet {
     pub facts: PacketFacts,

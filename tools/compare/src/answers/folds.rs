@@ -5,7 +5,7 @@ use crate::flow::{
     Direction, EndReason, FlowKey, FlowRecord, PacketFacts, StartState, TimeResolution, Timestamp,
 };
 use crate::random::Random;
-use crate::records::{flags, Packet};
+use crate::records::{Packet, flags};
 
 /// How many folds are taken at random, after the chosen ones.
 const AT_RANDOM: usize = 110;
@@ -52,7 +52,7 @@ impl Fold {
     }
 }
 
-/// As `open_record` of the Rust's flow_engine.rs, which is not built here.
+/// As `open_record` of the Rust's flow_engine.rs, which keeps it to itself.
 fn open_record(first: &Packet, resolution: TimeResolution) -> FlowRecord {
     let start_state = if first.key.protocol == TCP {
         match first.facts.tcp_flags {
@@ -213,7 +213,7 @@ fn random_below_a_second(base: u64) -> u64 {
     base.saturating_add(base % 1_000_000_000)
 }
 
-fn any_packet(random: &mut Random, key: FlowKey, time: u64) -> Packet {
+pub fn any_packet(random: &mut Random, key: FlowKey, time: u64) -> Packet {
     let frame_octets = any_octets(random);
     Packet {
         facts: PacketFacts {

@@ -3,7 +3,7 @@
 use std::net::{IpAddr, Ipv4Addr, Ipv6Addr};
 
 use crate::flow::{
-    EncapKind, Encapsulation, Endpoints, FlowKey, MacAddress, VlanTags, ETHERTYPE_ARP,
+    ETHERTYPE_ARP, EncapKind, Encapsulation, Endpoints, FlowKey, MacAddress, VlanTags,
 };
 use crate::random::Random;
 

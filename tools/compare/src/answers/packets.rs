@@ -3,7 +3,7 @@
 
 use crate::answers::folds;
 use crate::answers::lines;
-use crate::answers::wrong::{with_a_wrong_number, with_bytes_instead, WrongNumber};
+use crate::answers::wrong::{WrongNumber, with_a_wrong_number, with_bytes_instead};
 use crate::forms::PACKET;
 use crate::records;
 

@@ -3,11 +3,11 @@
 //! No fold makes these: they are a folded record's form with other numbers in some fields.
 
 use crate::answers::folds::{self, Fold};
-use crate::answers::wrong::{with_a_wrong_number, with_numbers, Refused, WrongNumber};
+use crate::answers::wrong::{Refused, WrongNumber, with_a_wrong_number, with_numbers};
 use crate::answers::{keys, lines};
 use crate::flow::{Direction, EndReason, PacketFacts, TimeResolution, Timestamp};
-use crate::forms::{join, Field, SHORT};
-use crate::records::{flags, record_fields, Names, Packet, FORWARD, RECORD, REVERSE};
+use crate::forms::{Field, SHORT, join};
+use crate::records::{FORWARD, Names, Packet, RECORD, REVERSE, flags, record_fields};
 
 const TOP: u128 = u64::MAX as u128;
 

@@ -1,6 +1,6 @@
 //! Forms with one field out of its range, and what reading them answers.
 
-use crate::forms::{self, join, Field, SHORT};
+use crate::forms::{self, Field, SHORT, join};
 
 /// A field of a form, the greatest number that it takes, and one that it does not take.
 pub struct WrongNumber {

@@ -1,0 +1,104 @@
+//! Drives the Rust's engine and the model side by side over random scripts, and compares every
+//! record and every count.
+//!
+//!     engines [--scripts N] [--seed S]
+//!
+//! Script I of a run is made from the seed S + I, so that a single one can be run again. Exits with 1
+//! at the first difference, after a script that shows it, with every step deleted that can be.
+
+use std::process::ExitCode;
+use std::time::{SystemTime, UNIX_EPOCH};
+
+use compare::engine::Engine;
+use compare::model::Model;
+use compare::rust_engine::RustEngine;
+use compare::scripts::run::{Difference, run};
+use compare::scripts::tally::Tally;
+use compare::scripts::{Script, make, show, shrink};
+
+const SCRIPTS: u64 = 2000;
+
+struct Options {
+    scripts: u64,
+    seed: u64,
+}
+
+fn main() -> ExitCode {
+    let options = match options(std::env::args().skip(1)) {
+        Ok(options) => options,
+        Err(complaint) => {
+            eprintln!("{complaint}\nusage: engines [--scripts N] [--seed S]");
+            return ExitCode::from(2);
+        }
+    };
+    println!("seed {}", options.seed);
+    match compare_all(&options) {
+        Ok(tally) => {
+            println!("no difference: {tally}");
+            ExitCode::SUCCESS
+        }
+        Err(seed) => {
+            report(seed);
+            ExitCode::FAILURE
+        }
+    }
+}
+
+fn options(mut arguments: impl Iterator<Item = String>) -> Result<Options, String> {
+    let mut options = Options {
+        scripts: SCRIPTS,
+        seed: seed_from_the_clock(),
+    };
+    while let Some(name) = arguments.next() {
+        let value = arguments
+            .next()
+            .and_then(|value| value.parse().ok())
+            .ok_or(format!("{name} takes a number"))?;
+        match name.as_str() {
+            "--scripts" => options.scripts = value,
+            "--seed" => options.seed = value,
+            _ => return Err(format!("{name} is not known")),
+        }
+    }
+    Ok(options)
+}
+
+fn seed_from_the_clock() -> u64 {
+    let since = SystemTime::now().duration_since(UNIX_EPOCH);
+    since.map_or(1, |since| since.as_nanos() as u64)
+}
+
+/// The first is the one that the others are compared with.
+fn engines() -> Vec<Box<dyn Engine>> {
+    vec![Box::new(Model::default()), Box::new(RustEngine::default())]
+}
+
+/// What was compared, or the seed of the first script that shows a difference.
+fn compare_all(options: &Options) -> Result<Tally, u64> {
+    let mut engines = engines();
+    let mut tally = Tally::default();
+    for place in 0..options.scripts {
+        let seed = options.seed.wrapping_add(place);
+        match run(&make::script(seed), &mut engines) {
+            Ok(one) => tally.add(&one),
+            Err(_) => return Err(seed),
+        }
+    }
+    Ok(tally)
+}
+
+/// Prints the seed of a script that shows a difference, then the script shrunk, then both answers.
+fn report(seed: u64) {
+    println!("a difference, in the script of seed {seed}");
+    let script = make::script(seed);
+    let shortest = shrink::shrink(&script, |script| differs(script).is_some());
+    println!("{} steps of {}:", shortest.steps.len(), script.steps.len());
+    println!("{}", show::script(&shortest));
+    if let Some(difference) = differs(&shortest) {
+        println!("{}", show::difference(&difference));
+    }
+}
+
+fn differs(script: &Script) -> Option<Box<Difference>> {
+    run(script, &mut engines()).err()
+}
