@@ -156,6 +156,19 @@ free-kept s s′ c free h same = record {
   count = omega (arith, h .count, used-same s s′ c same);
 }
 
+-- no slot has changed
+pub ready-same : (s s′ : List ℕ) (c : ℕ) (index free : List ℕ) → Ready s c index free → ((j : ℕ) → j < c → slot s′ j ≡ slot s j) → Ready s′ c index free
+ready-same s s′ c index free h same = record {
+  flows =
+      flows-kept s s′ c (h .flows)
+      (λ j l u.
+      let e = same j l in
+      let u′ = ap isUsed (sym e) ∙ u in
+      (u′, ap keyOf e, subst SoundSlot (sym e) (h .flows .slots j l u′)));
+  indexed = stays-indexed (h .indexed) (λ j l. (ap isUsed (same j l), ap keyOf (same j l)));
+  unused = free-kept s s′ c free (h .unused) (λ j l. ap isUsed (same j l));
+}
+
 -- slot x still has its flow's key
 pub ready-stored : (s s′ : List ℕ) (c x : ℕ) (index free : List ℕ) → Ready s c index free → x < c → isUsed (slot s x) ≡ true
     → isUsed (slot s′ x) ≡ true → keyOf (slot s′ x) ≡ keyOf (slot s x) → SoundSlot (slot s′ x) → OthersSame s s′ c x → Ready s′ c index free

@@ -28,7 +28,7 @@ use Rattle.key.specs.declared.key.FlowKey.{FlowKey}
 use Rattle.rules.specs.Engine.{keyBytes}
 use Rattle.state.specs.Slot.{keyIn, wordsIn, recordIn, SoundSlot}
 use Rattle.state.specs.State.{headerIn, capacityIn, SoundHeader, turned, one-way, Queued, SoundFlows, Sound}
-use Rattle.state.specs.Free.{FreeSlots, freeCount, pushed, free-begins, free-used, free-unused}
+use Rattle.state.specs.Free.{FreeSlots, FreeRoom, pushed, free-begins, free-used, free-unused}
 use Rattle.state.specs.Ready.{Ready}
 use Rattle.state.specs.HeaderTest.{soundHeader, header-yes, header-no}
 use Rattle.state.specs.SlotTest.{wholeKey, whole-yes, whole-no, WordsTested, Alone, KeyAdded, Adding, turned-twice, one-way-turned}
@@ -140,8 +140,8 @@ place-asks s i index free h = record {
   once = h .ready .flows .once;
 }
 
-pub place-pushes : (s : List ℕ) (i : ℕ) (index free : List ℕ) → PlaceAsked s i index free → (length free ≡ 4097) × (freeCount free < 4096) × (i < 4096)
-place-pushes s i index free h = (h .ready .unused .size, omega (arith, h .ready .unused .count, h .low), h .low)
+pub place-pushes : (s : List ℕ) (i : ℕ) (index free : List ℕ) → PlaceAsked s i index free → FreeRoom free i
+place-pushes s i index free h = record { size = h .ready .unused .size; room = omega (arith, h .ready .unused .count, h .low); low = h .low }
 
 flows-more : (s : List ℕ) (i : ℕ) → SoundFlows s i → (isUsed (slot s i) ≡ true → SoundSlot (slot s i))
     → (isUsed (slot s i) ≡ true → Alone s i (keyOf (slot s i))) → SoundFlows s (i + 1)

@@ -36,6 +36,25 @@ pushed x free = set (set free (freeCount free + 1) x) 0 (freeCount free + 1)
 abbrev pub popped : List ℕ → List ℕ
 popped free = set free 0 (freeCount free - 1)
 
+-- ## What the functions on the list ask and promise
+
+-- there is room for slot i
+pub record FreeRoom (free : List ℕ) (i : ℕ) : Type 0 where
+  pub size : length free ≡ 4097
+  pub room : freeCount free < 4096
+  pub low : i < 4096
+
+-- some slot is listed
+pub record SomeFree (free : List ℕ) : Type 0 where
+  pub size : length free ≡ 4097
+  pub some : 0 < freeCount free
+  pub most : freeCount free ≤ 4096
+
+-- the last slot of the list was taken out
+pub record Popped (free free′ : List ℕ) (r : ℕ) : Type 0 where
+  pub slot : r ≡ getD free (freeCount free) 0
+  pub list : free′ ≡ popped free
+
 -- ## Laws
 
 same-flag : {A : Type 0} {b : Bool} → b ≡ true → b ≡ false → A

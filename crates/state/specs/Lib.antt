@@ -9,3 +9,4 @@ pub mod SlotTest
 pub mod Change
 pub mod Check
 pub mod Opening
+pub mod Names

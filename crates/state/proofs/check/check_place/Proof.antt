@@ -23,7 +23,7 @@ returns : tie.Need-returns
 returns c = place-used _ _ _ _ (c .before .before .before .before .before .before .before .before .before .pre) (c .before .before .before .before .if1 .taken) _ _ (c .before .before .check-used .ensures)
 
 push-requires : tie.Need-push-requires
-push-requires c κs = let r = place-pushes _ _ _ _ (c .before .before .before .before .before .before .pre) in (r .0, (r .1, r .2))
+push-requires c κs = place-pushes _ _ _ _ (c .before .before .before .before .before .before .pre)
 
 same-length-2 : tie.Need-same-length-2
 same-length-2 c = search needs

@@ -1,0 +1,4 @@
+pub mod Slot
+pub mod Act
+pub mod Freed
+pub mod Acting

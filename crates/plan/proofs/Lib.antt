@@ -1,0 +1,10 @@
+pub mod Before
+pub mod Lists
+pub mod Looking
+pub mod Turns
+pub mod Listing
+pub mod Flows
+pub mod Planning
+pub mod Sweeping
+pub mod Clock
+pub mod Draining
