@@ -7,7 +7,7 @@ use mathlib.Core.List.{List, _∷_}
 use native.Mathlib.Omega.{arith}
 use lib.ListN.{length, getD, take, drop}
 use Rattle.memory.proofs.Laws.{same-or}
-use Rattle.queue.specs.Tree.{DueSet}
+use Rattle.queue.specs.Tree.{node, DueSet}
 use Rattle.slots.specs.Table.{slot, isUsed}
 use Rattle.table.specs.View.{View, view, slotOf, withTree}
 use Rattle.table.specs.Due.{endOf, dueOf, dueFor, DuePut}
@@ -50,11 +50,12 @@ pub record Putting (c T : ℕ) (s₀ l : List ℕ) (n : ℕ) (s : List ℕ) (k :
   pub long : length s ≡ length s₀
   pub within : k ≤ n
   pub same : QueueOnly (view c s₀) (view c s)
+  pub spare : node (view c s .tree) 0 ≡ node (view c s₀ .tree) 0
   pub names : NamesAllBut c T (view c s₀ .table) (view c s .tree) (drop k (take n l))
 
 module _ (c T : ℕ) (s₀ l : List ℕ) (n : ℕ) (asked : Asked c T s₀ l n) where
   pub back-begins : Putting c T s₀ l n s₀ 0
-  back-begins = record { size = asked .size; long = refl; within = omega arith; same = refl; names = asked .names }
+  back-begins = record { size = asked .size; long = refl; within = omega arith; same = refl; spare = refl; names = asked .names }
 
   module _ (s : List ℕ) (k : ℕ) (p : Putting c T s₀ l n s k) where
     module _ (more : k < n) where
@@ -80,6 +81,7 @@ module _ (c T : ℕ) (s₀ l : List ℕ) (n : ℕ) (asked : Asked c T s₀ l n) 
         long = q ∙ p .long;
         within = omega arith;
         same = put .same ∙ ap (withTree (view c s′ .tree)) (p .same);
+        spare = put .queue .spare ∙ p .spare;
         names =
             named-again c T (view c s₀ .table) (view c s .tree) (drop (k + 1) (take n l)) (view c s′ .tree) (getD l k 0) due some
             (subst (NamesAllBut c T (view c s₀ .table) (view c s .tree)) (next-listed l n k (asked .long) more) (p .names))
@@ -89,5 +91,6 @@ module _ (c T : ℕ) (s₀ l : List ℕ) (n : ℕ) (asked : Asked c T s₀ l n) 
     pub back-ends : n ≤ k → PutBack c T (view c s₀) (view c s)
     back-ends h = record {
       same = p .same;
+      spare = p .spare;
       names = subst (NamesAllBut c T (view c s₀ .table) (view c s .tree)) (none-listed l n k (asked .long) h) (p .names);
     }

@@ -3,8 +3,9 @@ use Prim.Native.Nat.{ℕ, _+_, _*_, _≤_, _<_}
 use mathlib.Core.Path.{_≡_}
 use mathlib.Core.Bool.{true}
 use mathlib.Core.List.{List, [], _∷_, map}
-use lib.ListN.{length, take, set, getD}
+use lib.ListN.{length, take, set}
 use Rattle.memory.specs.Bytes.{patch}
+use Rattle.queue.specs.Tree.{node}
 use Rattle.slots.specs.Table.{slot, isUsed}
 use Rattle.table.specs.View.{View, view, slotOf, withSlot}
 use Rattle.flow.specs.declared.time.EndReason.{EndReason}
@@ -15,7 +16,6 @@ use Rattle.rules.specs.Totals.{All}
 use Rattle.rules.specs.Rules.{finishOr}
 use Rattle.rules.specs.Engine.{engine, written}
 use Rattle.state.specs.Slot.{keyIn, flowIn, SoundSlot}
-use Rattle.state.specs.Free.{freeCount, popped}
 use Rattle.state.specs.Ready.{Ready}
 use Rattle.state.specs.Names.{Once, flowsOf, NamesAllBut, QueueOnly, OpenSlot}
 use Rattle.hand.specs.Slot.{flowAs}
@@ -48,9 +48,10 @@ pub record Asked (c T : ℕ) (s leaving : List ℕ) (n : ℕ) : Type 0 where
   pub slots : All (OpenSlot c (view c s .table)) (take n leaving)
   pub names : NamesAllBut c T (view c s .table) (view c s .tree) (take n leaving)
 
--- only the queue has changed, and it names every open flow
+-- only the queue has changed, though not its spare node 0, and it names every open flow
 pub record PutBack (c T : ℕ) (v v′ : View) : Type 0 where
   pub same : QueueOnly v v′
+  pub spare : node (v′ .tree) 0 ≡ node (v .tree) 0
   pub names : NamesAllBut c T (v .table) (v′ .tree) []
 
 -- ## The list is handed out

@@ -1,6 +1,6 @@
 -- A state inside a call, between one step and the next; and what a step leaves untouched. Assumes nothing.
 use Prim.Native.Nat.{ℕ, _+_, _*_, _≤_, _<_}
-use mathlib.Core.Path.{_≡_, refl, ap, _∙_}
+use mathlib.Core.Path.{_≡_, _∙_}
 use mathlib.Core.List.{List, [], map}
 use mathlib.Core.Option.{Option, none}
 use lib.ListN.{length, drop, getD, set}

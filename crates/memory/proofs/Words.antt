@@ -1,15 +1,15 @@
 -- The laws of runs of words. Assumes nothing.
-use mathlib.Core.Path.{_≡_, refl, sym, ap, _∙_, subst}
+use mathlib.Core.Path.{_≡_, refl, sym, ap, _∙_}
 use mathlib.Core.Logic.{⊎-elim}
 use mathlib.Core.List.{List, [], _∷_, _++_, append-nil, append-assoc}
 use Prim.Native.Nat.{ℕ, zero, suc, _+_, _*_, _^_, _≤_, _<_}
 use native.Mathlib.Numerals.{add-one}
-use native.Mathlib.Nat.{add-zero, zero-add}
+use native.Mathlib.Nat.{add-zero}
 use native.Mathlib.Omega.{arith}
 use lib.ListN.{length, take, drop, getD, set, length-append, length-set, take-append-drop}
 use lib.Seq.{take-suc, take-all, length-take-le, ext-getD, getD-set-same, getD-set-other, take-at, drop-append-add}
 use Rattle.memory.specs.Bytes.{num, le, part, patch, bytesOf, wordsAt}
-use Rattle.memory.proofs.Laws.{length-le, num-le, length-part, length-patch, part-part, part-patched, patch-join, getD-part, part-inside, part-ext, less-or}
+use Rattle.memory.proofs.Laws.{length-le, num-le, length-patch, part-part, part-patched, patch-join, less-or}
 
 pub length-bytes : (ws : List ℕ) → length (bytesOf ws) ≡ 8 * length ws
 unfolding bytesOf

@@ -41,6 +41,7 @@ module _ (c T L w : ℕ) (s l : List ℕ) (asked : PlanAsked c T L s l) where
   nothing h = record {
     few = omega arith;
     same = refl;
+    spare = refl;
     plan = record {
       names = asked .names;
       slots = tt;

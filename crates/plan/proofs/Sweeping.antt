@@ -8,7 +8,7 @@ use native.Mathlib.Omega.{arith}
 use lib.ListN.{length, getD, take, length-take}
 use borrow.Author.Tests.{leb-true}
 use Rattle.memory.proofs.Laws.{same-or}
-use Rattle.queue.specs.Tree.{never, Sound}
+use Rattle.queue.specs.Tree.{node, never, Sound}
 use Rattle.slots.specs.Table.{slot, keyOf, isUsed}
 use Rattle.table.specs.View.{View, view, slotOf, withTree}
 use Rattle.table.specs.Due.{endOf, dueOf, dueFor, NextDue}
@@ -52,6 +52,7 @@ due-view s c T i h = ap (λ (b : List ℕ). dueFor (endOf b) T) (sym (slot-view 
 record Stepped (c T limit : ℕ) (v v′ : View) (listed : List ℕ) (n : ℕ) : Type 0 where
   few : n ≤ c
   same : QueueOnly v v′
+  spare : node (v′ .tree) 0 ≡ node (v .tree) 0
   plan : Planning c T limit (v .table) (v′ .tree) listed
   fewer : toDo c T limit (v .table) (v′ .tree) < toDo c T limit (v .table) (v .tree)
 
@@ -66,6 +67,7 @@ module _ (c T limit : ℕ) (s l : List ℕ) (n i : ℕ) (long : n ≤ length l) 
         record {
           few = omega (arith, one-fits, b .count);
           same = b .queue .same;
+          spare = b .queue .queue .spare;
           plan = subst (Planning c T limit (view c s .table) (view c s′ .tree)) (sym (b .list)) (plan-back d (b .queue .queue) real);
           fewer = fewer-early d (b .queue .queue) real (λ e. b .other (e ∙ sym real));
         }
@@ -78,6 +80,7 @@ module _ (c T limit : ℕ) (s l : List ℕ) (n i : ℕ) (long : n ≤ length l) 
         record {
           few = omega (arith, one-fits, b .count);
           same = b .queue .same;
+          spare = b .queue .queue .spare;
           plan =
               subst (Planning c T limit (view c s .table) (view c s′ .tree)) (sym (b .list .is))
               (plan-out d (b .queue .queue) (b .exact ∙ due-view s c T i (d .low)) (b .list .k) place);
@@ -93,6 +96,7 @@ pub record Looping (c T limit : ℕ) (s₀ leaving₀ s leaving : List ℕ) (n i
   pub room : length leaving ≡ length leaving₀
   pub few : n ≤ c
   pub same : QueueOnly (view c s₀) (view c s)
+  pub spare : node (view c s .tree) 0 ≡ node (view c s₀ .tree) 0
   pub plan : Planning c T limit (view c s₀ .table) (view c s .tree) (take n leaving)
   pub next : NextDue c limit (view c s .tree) i
 
@@ -107,6 +111,7 @@ module _ (c T limit : ℕ) (s₀ l₀ : List ℕ) (asked : SweepAsked c T limit 
     room = refl;
     few = omega arith;
     same = refl;
+    spare = refl;
     plan = record { names = asked .names; slots = tt; once = tt; ordered = tt };
     next = next;
   }
@@ -154,6 +159,7 @@ module _ (c T limit : ℕ) (s₀ l₀ : List ℕ) (asked : SweepAsked c T limit 
         room = f ∙ h .room;
         few = stepped .few;
         same = queue-twice (view c s₀) (view c s) (view c s′) (h .same) (stepped .same);
+        spare = stepped .spare ∙ h .spare;
         plan = subst (λ (t : List (List ℕ)). Planning c T limit t (view c s′ .tree) (take r l′)) is-table (stepped .plan);
         next = next;
       }
@@ -199,6 +205,7 @@ pub loop-ends : (c T limit : ℕ) (s₀ l₀ : List ℕ) → SweepAsked c T limi
 loop-ends c T limit s₀ l₀ asked s l n i h e = record {
   few = h .few;
   same = h .same;
+  spare = h .spare;
   plan =
       planned c T limit s₀ (view c s .tree) (take n l) (asked .timed) (asked .flows) (h .plan) (h .next .past (omega (arith, h .next .within)));
 }

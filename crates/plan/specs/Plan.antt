@@ -2,14 +2,14 @@
 -- plan changes the queue alone, which then no longer names the listed slots; a drain's plan changes nothing.
 use Prim.Native.Nat.{ℕ, _+_, _*_, _≤_, _<_}
 use mathlib.Core.Path.{_≡_}
-use mathlib.Core.Bool.{Bool, true, false, not, _&&_}
-use mathlib.Core.List.{List, [], _∷_, map}
+use mathlib.Core.Bool.{Bool, true, not, _&&_}
+use mathlib.Core.List.{List, []}
 use lib.Dec.{leb, eqb}
 use lib.ListN.{length}
-use Rattle.queue.specs.Tree.{never, Sound}
+use Rattle.queue.specs.Tree.{node, never}
 use Rattle.slots.specs.Table.{isUsed}
-use Rattle.table.specs.View.{View, view, slotOf, withTree}
-use Rattle.table.specs.Due.{endOf, dueOf}
+use Rattle.table.specs.View.{View, view, slotOf}
+use Rattle.table.specs.Due.{dueOf}
 use Rattle.state.specs.Slot.{flowIn}
 use Rattle.state.specs.State.{SoundFlows, slotsOf}
 use Rattle.state.specs.Names.{OneOf, Once, flowsOf, NamesAllBut, QueueOnly, OpenSlot}
@@ -40,10 +40,11 @@ pub record Planned (c T : ℕ) (test : Flow engine → Bool) (table : List (List
   pub all : (i : ℕ) → i < c → isUsed (slotOf table i) ≡ true → test (flowIn (slotOf table i)) ≡ true → OneOf i listed
   pub flows : flowsOf table listed ≡ sort (byEnd engine) (those test (meaning engine (slotsOf table)))
 
--- the same from a state's view before to its view after; n slots are listed
+-- the same from a state's view before to its view after; n slots are listed, and node 0 of the tree, which is spare, is as it was
 pub record PlanMade (c T : ℕ) (test : Flow engine → Bool) (v v′ : View) (listed : List ℕ) (n : ℕ) : Type 0 where
   pub few : n ≤ c
   pub same : QueueOnly v v′
+  pub spare : node (v′ .tree) 0 ≡ node (v .tree) 0
   pub plan : Planned c T test (v .table) (v′ .tree) listed
 
 -- sound flows, all named by the queue, and a list with room for every slot. With L at least 2, W − L is below the greatest due time of

@@ -1,15 +1,15 @@
 -- The laws of `specs/Tree.antt`. Assumes nothing.
 use mathlib.Core.Path.{_≡_, refl, sym, ap, _∙_, subst}
-use mathlib.Core.Logic.{⊎-elim, _⊎_, inl, inr}
+use mathlib.Core.Logic.{⊎-elim, inl, inr}
 use mathlib.Core.List.{List}
 use Prim.Native.Nat.{ℕ, zero, suc, _+_, _-_, _*_, _/_, _%_, _^_, _≤_, _<_, min}
 use native.Mathlib.Omega.{arith}
 use lib.ListN.{length, replicate, length-replicate}
 use lib.Arith.{bin-ind}
-use Rattle.memory.specs.Bytes.{num, le, part, patch}
+use Rattle.memory.specs.Bytes.{num, le, part}
 use Rattle.memory.proofs.Laws.{length-le, num-le, length-patch, part-patched, part-elsewhere, apart, less-or, same-or, part-replicate}
 use Rattle.queue.specs.Tree.{node, withNode, Lesser, Sound, Refreshed, DueSet, LeastDue, Empty, never}
-use Rattle.queue.specs.declared.Found.the-variants.{At, Nothing}
+use Rattle.queue.specs.declared.Found.the-variants.{At}
 
 module _ (t : List ℕ) (k v : ℕ) (fits : 8 * k + 8 ≤ length t) where
   within : 8 * k + length (le 8 v) ≤ length t

@@ -1,10 +1,11 @@
 // The expiry queue: a tournament tree of least due times over the slots, in lent memory. Node 1 is the root, node k has
 // the children 2k and 2k + 1, and slot i's due time is node capacity + i. A node is eight bytes.
+use arith::lesser64;
 ghost use mathlib.Core.Path.{_≡_};
 ghost use Rattle.memory.specs.Decides.{Decides};
-ghost use Prim.Native.Nat.{_+_, _*_, _≤_, _<_, min};
+ghost use Prim.Native.Nat.{_+_, _*_, _≤_, _<_};
 ghost use lib.ListN.{length};
-ghost use Rattle.queue.specs.Tree.{node, withNode, Sound, DueSet, LeastDue, Refreshed, Empty};
+ghost use Rattle.queue.specs.Tree.{node, withNode, Sound, DueSet, LeastDue, Refreshed};
 
 // The due time of a slot that is in no queue.
 pub const NEVER: u64 = 0xffff_ffff_ffff_ffff;
@@ -28,12 +29,6 @@ pub fn store_node(tree: &mut [u8], k: usize, due: u64)
     memory::store_u64(tree, 8 * k, due);
 }
 
-pub fn lesser(a: u64, b: u64) -> u64
-    ensures { λ r. ⌜ r ≡ min a b ⌝ }
-{
-    if a <= b { a } else { b }
-}
-
 // Node k becomes the lesser of its children.
 pub fn refresh(tree: &mut [u8], k: usize)
     requires { ⌜ 16 * k + 16 ≤ length (now tree) ⌝ }
@@ -42,7 +37,7 @@ pub fn refresh(tree: &mut [u8], k: usize)
 {
     let left = load_node(tree, 2 * k);
     let right = load_node(tree, 2 * k + 1);
-    store_node(tree, k, lesser(left, right));
+    store_node(tree, k, lesser64(left, right));
 }
 
 // Slot's due time becomes due: the leaf, and then each node above it.
@@ -91,18 +86,10 @@ pub fn is_sound(tree: &[u8], capacity: usize) -> bool
         let left = load_node(tree, 2 * k);
         let right = load_node(tree, 2 * k + 1);
         let own = load_node(tree, k);
-        if own != lesser(left, right) {
+        if own != lesser64(left, right) {
             return false;
         }
         k += 1;
     }
     true
-}
-
-// No slot is due.
-pub fn clear(tree: &mut [u8], capacity: usize)
-    requires { ⌜ length (now tree) ≡ 16 * capacity ⌝ }
-    ensures { λ _. ⌜ Empty capacity (now (tree .exit)) ⌝ }
-{
-    memory::fill(tree, 255);
 }

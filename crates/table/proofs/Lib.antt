@@ -1,3 +1,4 @@
 pub mod Laws
 pub mod HeaderLaws
 pub mod SlotLaws
+pub mod QueueLaws

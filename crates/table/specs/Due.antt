@@ -1,7 +1,8 @@
 -- When a slot's flow ends, when it is due, and what the queue says of it.
-use Prim.Native.Nat.{ℕ, _+_, _-_, _≤_, _<_, min}
+use Prim.Native.Nat.{ℕ, _+_, _-_, _*_, _≤_, _<_, min}
 use mathlib.Core.Path.{_≡_}
-use mathlib.Core.List.{List}
+use mathlib.Core.List.{List, _++_}
+use lib.ListN.{replicate}
 use Rattle.memory.specs.Bytes.{num, part}
 use Rattle.queue.specs.Tree.{node, never, DueSet}
 use Rattle.table.specs.View.{View, withTree}
@@ -28,3 +29,8 @@ pub record NextDue (c limit : ℕ) (tree : List ℕ) (r : ℕ) : Type 0 where
   pub within : r ≤ c
   pub soon : r < c → dueOf c tree r ≤ limit
   pub past : r ≡ c → (j : ℕ) → j < c → limit < dueOf c tree j
+
+-- the queue names nothing: every node of the tree but node 0, which is spare, is 255 throughout, and nothing but the tree has changed
+pub record QueueCleared (c : ℕ) (v v′ : View) : Type 0 where
+  pub same : v′ ≡ withTree (v′ .tree) v
+  pub tree : v′ .tree ≡ part (v .tree) 0 8 ++ replicate (16 * c - 8) 255

@@ -16,7 +16,7 @@ ghost use Rattle.queue.specs.Tree.{Sound};
 ghost use Rattle.slots.specs.Table.{slot};
 ghost use Rattle.table.specs.Header.{headerOf, headerWords, withClock, blankHeader};
 ghost use Rattle.table.specs.View.{view, slotOf, withHeader, withSlot, NoFlow, Cleared};
-ghost use Rattle.table.specs.Due.{endOf, dueOf, dueFor, DuePut, NextDue};
+ghost use Rattle.table.specs.Due.{endOf, dueOf, dueFor, DuePut, NextDue, QueueCleared};
 
 // The number of this layout.
 const LAYOUT: u64 = 1;
@@ -178,6 +178,18 @@ pub fn tree_is_sound(state: &[u8], capacity: usize) -> bool
     let from = HEADER_BYTES + SLOT_BYTES * capacity;
     let end = from + QUEUE_BYTES * capacity;
     queue::is_sound(&state[from..end], capacity)
+}
+
+// The queue names nothing.
+pub fn clear_queue(state: &mut [u8], capacity: usize)
+    requires { ⌜ 256 + 640 * capacity ≤ length (now state) ⌝ }
+    requires { ⌜ 0 < capacity ⌝ }
+    ensures { λ _. ⌜ QueueCleared capacity (view capacity (now (state .entry))) (view capacity (now (state .exit))) ⌝ }
+{
+    // Node 0 is spare and stays as it is.
+    let from = HEADER_BYTES + SLOT_BYTES * capacity + NODE_BYTES;
+    let end = from + (QUEUE_BYTES * capacity - NODE_BYTES);
+    memory::fill(&mut state[from..end], 255);
 }
 
 // No flow, and nothing in the header.

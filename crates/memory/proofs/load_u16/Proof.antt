@@ -1,3 +1,4 @@
+-- `memory::load_u16` meets its contract. Assumes nothing.
 use native.Mathlib.Omega.{arith}
 use Rattle.memory.proofs.Laws.{num-part, num-byte}
 use Prim.Native.Nat.{_+_}

@@ -1,3 +1,4 @@
+-- `memory::load_u64` meets its contract. Assumes nothing.
 use native.Mathlib.Omega.{arith}
 use Rattle.memory.proofs.Laws.{num-part}
 use borrow.Author.Needs.{needs}

@@ -1,3 +1,4 @@
+-- `memory::store_u64` meets its contract. Assumes nothing.
 use native.Mathlib.Omega.{arith}
 use mathlib.Core.Path.{ap, _∙_}
 use mathlib.Core.List.{List}

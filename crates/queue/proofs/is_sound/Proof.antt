@@ -1,3 +1,4 @@
+-- `queue::is_sound` meets its contract. Assumes nothing.
 use Rattle.memory.proofs.Laws.{says-yes, says-no}
 use Rattle.queue.proofs.Laws.{inner-more}
 use native.Mathlib.Omega.{arith}
@@ -34,8 +35,8 @@ load-node-requires-2 c κs = search needs
 load-node-requires-3 : tie.Need-load-node-requires-3 Inv-loop μ-loop
 load-node-requires-3 c κs = search needs
 
-lesser-requires : tie.Need-lesser-requires Inv-loop μ-loop
-lesser-requires c κs = search needs
+lesser64-requires : tie.Need-lesser64-requires Inv-loop μ-loop
+lesser64-requires c κs = search needs
 
 returns : tie.Need-returns Inv-loop μ-loop
 returns c =
@@ -73,7 +74,7 @@ is-sound-spec =
     add-load-node
     load-node-requires-2
     load-node-requires-3
-    lesser-requires
+    lesser64-requires
     returns
     add-k
     loop-less

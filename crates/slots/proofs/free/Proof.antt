@@ -1,3 +1,4 @@
+-- `slots::free` meets its contract. Assumes nothing.
 use Rattle.memory.proofs.Laws.{set-patch}
 use borrow.Author.Needs.{needs}
 use Rattle.slots.proofs.free.Statement.{statement}

@@ -1,3 +1,4 @@
+-- `slots::key_of` meets its contract. Assumes nothing.
 use native.Mathlib.Omega.{arith}
 use mathlib.Core.Path.{sym, refl, _∙_}
 use Prim.Native.Nat.{_+_, _*_}

@@ -1,3 +1,4 @@
+-- `slots::put_key` meets its contract. Assumes nothing.
 use native.Mathlib.Omega.{arith}
 use lib.ListN.{length, length-set}
 use mathlib.Core.Path.{ap, _∙_}

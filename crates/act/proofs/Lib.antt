@@ -1,0 +1,5 @@
+pub mod Changed
+pub mod Stored
+pub mod Opening
+pub mod Keeping
+pub mod Leaving

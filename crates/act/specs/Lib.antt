@@ -1,0 +1,6 @@
+pub mod Size
+pub mod Keep
+pub mod Settle
+pub mod Free
+pub mod Clock
+pub mod Whole

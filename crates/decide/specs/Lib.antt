@@ -1,0 +1,4 @@
+pub mod Decide
+pub mod Search
+pub mod Choose
+pub mod Settle
