@@ -43,6 +43,13 @@ abbrev pub openedHeader : ℕ → Millis → TimeResolution → Header
 openedHeader c ms resolution =
     blankHeader c (record { 0 = timeoutOf ms }) (record { 0 = latenessOf (timeoutOf ms) }) (resolutionNumber resolution)
 
+-- P4: 18,446,744,073,709 ms is exact; 18,446,744,073,710 is held at the top
+p4-exact : (c : ℕ) (resolution : TimeResolution) → openedHeader c (record { 0 = 18446744073709 }) resolution .timeout .0 ≡ 18446744073709000000
+p4-exact c resolution = refl
+
+p4-held : (c : ℕ) (resolution : TimeResolution) → openedHeader c (record { 0 = 18446744073710 }) resolution .timeout .0 ≡ 2 ^ 64 - 1
+p4-held c resolution = refl
+
 -- "Order: 1, 2 at opening"; "Refusals 1, 2, 3 write nothing." Opened, every byte of the four regions is given: header, slots and queue; what
 -- lies beyond is as it was.
 pub record Opened (before : List ℕ) (c : ℕ) (ms : Millis) (resolution : TimeResolution) (r : Opening) (after : List ℕ) : Type 0 where
