@@ -5,3 +5,5 @@ pub mod Calls
 pub mod Meant
 pub mod Handed
 pub mod Doing
+pub mod FeedOne
+pub mod FeedLoop

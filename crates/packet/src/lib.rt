@@ -1,5 +1,6 @@
 // One packet of a batch: what it will do is decided first, on the flows as its sweep will leave them; then it is done, or refused and
 // nothing is done.
+pub mod feed;
 pub mod perform;
 pub mod size;
 
