@@ -2,7 +2,7 @@ use mathlib.Core.Path.{_∙_}
 use borrow.Author.Needs.{needs}
 use Prim.Native.Nat.{_-_}
 use lib.ListN.{length}
-use Rattle.packet.specs.FeedLoop.{Looping, loop-begins, loop-ends, bytes-within, loop-asks, loop-stopped, loop-goes, rest-long}
+use Rattle.packet.specs.FeedLoop.{Looping, loop-begins, loop-ends, bytes-within, loop-asks, loop-stopped, loop-goes, loop-again as goes-again, loop-less as goes-less, rest-long}
 use Rattle.packet.proofs.feed.feed_all.Statement.{statement}
 use Rattle.packet.proofs.feed.feed_all.Tie as tie
 
