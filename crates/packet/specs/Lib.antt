@@ -7,3 +7,4 @@ pub mod Handed
 pub mod Doing
 pub mod FeedOne
 pub mod FeedLoop
+pub mod FeedCall

@@ -5,8 +5,10 @@ use crate::one_packet;
 use flow::time::Idle;
 use flow::time::TimeResolution;
 use key::form::key_len;
+use state::check::check;
 use wire::packet::PacketAt;
 use wire::packet::read_packet_at;
+use words::fields::resolution_at;
 ghost use mathlib.Core.Path.{_≡_};
 ghost use mathlib.Core.Bool.{cond, false};
 ghost use Prim.Native.Nat.{_+_, _≤_, _<_};
@@ -14,6 +16,7 @@ ghost use lib.ListN.{length};
 ghost use Rattle.forms.specs.At.{readAt};
 ghost use Rattle.wire.specs.PacketForm.{packet};
 ghost use Rattle.state.specs.State.{settingsIn, meaning};
+ghost use Rattle.sweeps.specs.Steps.{SoundReady};
 ghost use Rattle.packet.specs.Batch.{parsed, feedBytes};
 ghost use Rattle.packet.specs.Feed.{FedAs, Fed};
 ghost use Rattle.packet.specs.FeedOne.{OneAsked, OneFed, countOf};
@@ -172,4 +175,51 @@ fn feed_all(
         answer = added(answer, taken);
     }
     answer
+}
+
+// A batch on a sound state.
+fn feed_sound(
+    state: &mut [u8],
+    batch: &[u8],
+    index: &mut [u32],
+    free: &mut [u16],
+    out: &mut [u8],
+) -> Answer
+    requires { ⌜ SoundReady (now state) (now index) (now free) ⌝ }
+    ensures { λ r. ⌜ FedAs (feedBytes (settingsIn (now (state .entry))) (length (now (out .entry))) (now (batch .entry)) (meaning (now (state .entry)))) (parsed (now (batch .entry)) .packets) (now (state .entry)) (now (out .entry)) r (now (state .exit)) (now (out .exit)) ⌝ }
+{
+    let header = table::load_header(state);
+    let capacity = header.capacity as usize;
+    let timeout = header.timeout;
+    let lateness = header.lateness;
+    let idle = Idle {
+        timeout: timeout,
+        lateness: lateness,
+    };
+    let resolution = resolution_at(header.resolution);
+    let mut leaving = [0u16; 4096];
+    feed_all(
+        state,
+        capacity,
+        idle,
+        resolution,
+        batch,
+        index,
+        free,
+        &mut leaving,
+        out,
+    )
+}
+
+// Every packet of the batch, in order; a refused packet stops it, and what was taken before it stands. Refusals: 3 Damaged before any
+// packet; then by packet 9 Short, 4 Packet, 5 Full, 6 Spent, 7 Room.
+pub fn feed(state: &mut [u8], batch: &[u8], out: &mut [u8]) -> Answer
+    ensures { λ r. ⌜ Fed (now (state .entry)) (now (batch .entry)) (now (out .entry)) r (now (state .exit)) (now (out .exit)) ⌝ }
+{
+    let mut index = [0u32; 16384];
+    let mut free = [0u16; 4097];
+    if check(state, &mut index, &mut free) {
+        return feed_sound(state, batch, &mut index, &mut free, out);
+    }
+    stopped(3, nothing_yet())
 }

@@ -1,3 +1,4 @@
+-- `packet::feed::added` meets its contract. Assumes nothing.
 use Rattle.packet.specs.FeedLoop.{opened-one, sum-opened}
 use native.Mathlib.Omega.{arith}
 use borrow.Author.Needs.{needs}

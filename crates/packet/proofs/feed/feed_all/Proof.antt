@@ -1,3 +1,4 @@
+-- `packet::feed::feed_all` meets its contract. Assumes nothing.
 use mathlib.Core.Path.{_∙_}
 use borrow.Author.Needs.{needs}
 use Prim.Native.Nat.{_-_}

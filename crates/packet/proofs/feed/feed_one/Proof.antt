@@ -1,3 +1,4 @@
+-- `packet::feed::feed_one` meets its contract. Assumes nothing.
 use Rattle.packet.specs.declared.feed.Taken.{Taken}
 use Rattle.packet.specs.Batch.{Here}
 use Rattle.packet.specs.FeedOne.{key-fits, key-here, here-read, one-asked, one-fed, one-short, one-refused}
