@@ -33,10 +33,10 @@ use Rattle.state.specs.Change.{lastFree, used-flow, free-flow, slots-of-at, rea
 use Rattle.hand.specs.Slot.{flowAs}
 use Rattle.hand.specs.Act.{freedSlot, CloseAsked, Closed, OneAsked, Wrote}
 use Rattle.hand.specs.Freed.{slot-freed, spare-freed}
-use Rattle.hand.specs.Acting.{Busy, Acted, at, emptiedAt}
+use Rattle.hand.specs.Acting.{Busy, Acted, at, emptiedAt, reasonOf}
 use Rattle.act.specs.Size.{long-enough}
 use Rattle.act.specs.Keep.{flowUnder, Sits, KeepAsked, keptSlots}
-use Rattle.act.specs.Settle.{Filled, EndAsked, reasonOf, LeaveAsked, SettleAsked, settledSlots}
+use Rattle.act.specs.Settle.{Filled, EndAsked, LeaveAsked, SettleAsked, settledSlots}
 use Rattle.act.proofs.Changed.{SlotChanged, slot-acted}
 
 -- ## Nothing is done

@@ -2,7 +2,6 @@
 use Prim.Native.Nat.{ℕ, _≤_, _<_}
 use mathlib.Core.Path.{_≡_}
 use mathlib.Core.List.{List}
-use mathlib.Core.Option.{Option, none, some}
 use lib.ListN.{length}
 use Rattle.memory.specs.Bytes.{patch}
 use Rattle.slots.specs.Table.{slot, slots}
@@ -21,7 +20,7 @@ use Rattle.rules.specs.Slots.{Slots}
 use Rattle.state.specs.Slot.{keyIn}
 use Rattle.state.specs.State.{slotsOf}
 use Rattle.state.specs.Free.{freeCount}
-use Rattle.hand.specs.Acting.{Busy, at, emptiedAt}
+use Rattle.hand.specs.Acting.{Busy, at, emptiedAt, reasonOf}
 use Rattle.act.specs.Keep.{flowUnder, Sits, OldFlow, NewFlow, keptSlots}
 
 -- the bytes are at the front of the output, and the answer is their length
@@ -38,11 +37,6 @@ pub record EndAsked (c T : ℕ) (found : Found) (s index free out : List ℕ) : 
   pub room : length (written (ended engine Fin (at (slotsOf (slots s c)) found))) ≤ length out
 
 -- ## Steps 3 and 4
-
--- the reason, if there is one
-abbrev pub reasonOf : OptEndReason → Option EndReason
-reasonOf Absent = none
-reasonOf (Present r) = some r
 
 -- a slot with the flow under this key, if there is one
 pub record LeaveAsked (c T : ℕ) (found : Found) (name : FlowKey) (s index free : List ℕ) : Type 0 where

@@ -17,9 +17,9 @@ ghost use Rattle.flow.specs.declared.time.EndReason.the-variants.{Fin};
 ghost use Rattle.rules.specs.Rules as rules;
 ghost use Rattle.rules.specs.Rules.{endedFor};
 ghost use Rattle.rules.specs.Engine.{engine, written};
-ghost use Rattle.hand.specs.Acting.{Acted, at, emptiedAt};
+ghost use Rattle.hand.specs.Acting.{Acted, at, emptiedAt, reasonOf};
 ghost use Rattle.act.specs.Keep.{flowUnder};
-ghost use Rattle.act.specs.Settle.{Filled, EndAsked, reasonOf, LeaveAsked, SettleAsked, settledSlots};
+ghost use Rattle.act.specs.Settle.{Filled, EndAsked, LeaveAsked, SettleAsked, settledSlots};
 
 // The flow that step 1 ends, if there is one, is handed out with Fin.
 pub fn end_ended(

@@ -27,8 +27,8 @@ use Rattle.state.specs.Slot.{recordIn}
 use Rattle.state.specs.SlotTest.{foundIt}
 use Rattle.hand.specs.Slot.{HasRecord, HasFlow}
 use Rattle.decide.specs.declared.choose.Choice.{Choice}
-use Rattle.decide.specs.Decide.{reasonOf}
 use Rattle.decide.specs.Settle.{recordBefore, RoomUnless, recordAfter, endingBy, nameBy, freedBy, refusalBy, SettleAsked, Settled}
+use Rattle.hand.specs.Acting.{reasonOf}
 
 -- ## The record before the packet
 

@@ -1,13 +1,11 @@
 -- The search among the flows that stay finds what the rules find. Assumes nothing.
 use mathlib.Core.Path.{_≡_, refl, sym, ap, _∙_, subst}
-use mathlib.Core.Bool.{Bool, true, false, not, cond, _&&_}
+use mathlib.Core.Bool.{Bool, true, false, not, cond}
 use mathlib.Core.List.{List}
 use mathlib.Core.Option.{none, some}
-use Prim.Native.Nat.{ℕ, _+_, _*_, _-_, _≤_, _<_}
+use Prim.Native.Nat.{ℕ, _+_, _*_, _≤_, _<_}
 use native.Mathlib.Omega.{arith}
-use lib.Dec.{leb, eqb}
 use lib.ListN.{length, getD, take, List·getD-map}
-use borrow.Author.Tests.{le-leb, lt-leb, leb-true, leb-false, eqb-false}
 use Rattle.slots.specs.Table.{slot, slots, isUsed, holds, firstWhere}
 use Rattle.slots.specs.declared.Found.{Found}
 use Rattle.slots.specs.declared.Found.the-variants as Found
@@ -18,6 +16,7 @@ use Rattle.table.specs.Due.{endOf}
 use Rattle.key.specs.Key.{reversedKey}
 use Rattle.key.specs.KeyTheorems.{KeyInRange}
 use Rattle.key.specs.declared.key.FlowKey.{FlowKey}
+use Rattle.rules.specs.Due.{idle}
 use Rattle.rules.specs.Laws.{Distinct, distinct-those}
 use Rattle.rules.specs.Rules.{Flow, byKey, under}
 use Rattle.rules.specs.Engine.{engine, keyBytes}
@@ -35,21 +34,8 @@ use Rattle.decide.proofs.Finding.{occupied-keep, kept-found}
 
 -- ## Whether a flow leaves
 
--- the test by differences is the test by the sum
-pub leaves-told : (s : List ℕ) (i T L w : ℕ) {past rest end : ℕ} → end ≡ endOf (slot s i) → past ≡ w - end → rest ≡ past - T
-    → (not (eqb T 0) && leb T past && leb L rest) ≡ leavesBy T L w (flowIn (slot s i))
-leaves-told s i T L w {past} {rest} {end} e p r =
-    let same : engine .latest (flowIn (slot s i) .held) ≡ end = end-told (slot s i) ∙ sym e in
-    rw same (by-sum (eqb T 0) refl (leb T past) refl)
-  where
-    by-sum : (z : Bool) → eqb T 0 ≡ z → (b : Bool) → leb T past ≡ b → (not z && b && leb L rest) ≡ (not z && leb (end + T + L) w)
-    by-sum true z b t = refl
-    by-sum false z false t = sym (lt-leb (end + T + L) w (omega (arith, leb-false T past t, eqb-false T 0 z)))
-    by-sum false z true t = go (leb L rest) refl
-      where
-        go : (a : Bool) → leb L rest ≡ a → a ≡ leb (end + T + L) w
-        go true k = sym (le-leb (end + T + L) w (omega (arith, leb-true L rest k, leb-true T past t, eqb-false T 0 z)))
-        go false k = sym (lt-leb (end + T + L) w (omega (arith, leb-false L rest k, leb-true T past t)))
+pub leaves-told : (s : List ℕ) (i T L w : ℕ) {end : ℕ} {r : Bool} → end ≡ endOf (slot s i) → r ≡ idle end T L w → r ≡ leavesBy T L w (flowIn (slot s i))
+leaves-told s i T L w e t = t ∙ ap (λ (n : ℕ). idle n T L w) (e ∙ sym (end-told (slot s i)))
 
 -- ## The slots as the sweep will leave them
 

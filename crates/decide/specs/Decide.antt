@@ -12,9 +12,7 @@ use Rattle.slots.specs.declared.Found.the-variants as Found
 use Rattle.index.specs.Hash.{hashOf}
 use Rattle.index.specs.Index.{Indexed}
 use Rattle.flow.specs.Counting.{openedOf}
-use Rattle.flow.specs.declared.time.EndReason.{EndReason}
 use Rattle.flow.specs.declared.time.OptEndReason.{OptEndReason}
-use Rattle.flow.specs.declared.time.OptEndReason.the-variants.{Absent, Present}
 use Rattle.flow.specs.declared.record.FlowRecord.{FlowRecord}
 use Rattle.flow.specs.declared.record.Direction.{Direction}
 use Rattle.flow.specs.declared.record.Direction.the-variants.{Forward}
@@ -26,7 +24,7 @@ use Rattle.rules.specs.Slots.{Slots, keep, meaning}
 use Rattle.state.specs.Slot.{flowIn}
 use Rattle.state.specs.State.{SoundFlows, slotsOf}
 use Rattle.plan.specs.Plan.{leavesBy}
-use Rattle.hand.specs.Acting.{at, emptiedAt}
+use Rattle.hand.specs.Acting.{at, emptiedAt, reasonOf}
 use Rattle.decide.specs.declared.decide.Decision.{Decision}
 
 -- ## The flows as the packet's sweep will leave them
@@ -68,11 +66,6 @@ takerOf (some f) d = old d f
 abbrev pub heldBefore : Settings → Packet → Taker engine → FlowRecord
 heldBefore S p (old d f) = f .held
 heldBefore S p new = openedOf (S .resolution) (p .key .protocol) (p .facts)
-
--- why a flow ends, if it does
-abbrev pub reasonOf : OptEndReason → Option EndReason
-reasonOf Absent = none
-reasonOf (Present r) = some r
 
 -- ## What is asked
 

@@ -26,7 +26,7 @@ use Rattle.state.specs.SlotTest.{foundIt}
 use Rattle.hand.specs.Slot.{HasFlow}
 use Rattle.decide.specs.declared.choose.Choice.{Choice}
 use Rattle.decide.specs.declared.decide.Decision.{Decision}
-use Rattle.decide.specs.Decide.{reasonOf}
+use Rattle.hand.specs.Acting.{reasonOf}
 
 -- the slot that takes the packet, if there is one, has a sound flow
 abbrev pub SlotSound : List ℕ → Found → Type 0

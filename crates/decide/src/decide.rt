@@ -29,8 +29,9 @@ ghost use Rattle.flow.specs.Summary.{rst, bitOf};
 ghost use Rattle.rules.specs.Engine.{engine};
 ghost use Rattle.rules.specs.Slots.{occupied};
 ghost use Rattle.state.specs.SlotTest.{foundIt};
-ghost use Rattle.decide.specs.Decide.{stayingSlots, reasonOf, DecideAsked, Decided};
+ghost use Rattle.decide.specs.Decide.{stayingSlots, DecideAsked, Decided};
 ghost use Rattle.decide.specs.Settle.{SlotSound, recordBefore, RoomUnless, recordAfter, endingBy, nameBy, freedBy, refusalBy, SettleAsked, Settled};
+ghost use Rattle.hand.specs.Acting.{reasonOf};
 
 // The refusal of a packet that would open a flow where there is no room.
 const FULL: u8 = 5;
@@ -117,8 +118,8 @@ fn name_of(key: FlowKey, direction: Direction) -> FlowKey
     }
 }
 
-// How many slots step 1 frees.
-fn freed_by(ended: Found) -> usize
+// How many slots step 1 frees, and how many records it finishes.
+pub fn freed_by(ended: Found) -> usize
     ensures { λ r. ⌜ r ≡ freedBy ended ⌝ }
 {
     match ended {

@@ -23,9 +23,7 @@ fn leaves(state: &[u8], i: usize, idle: Idle, clock: Nanos) -> bool
 {
     let timeout = idle.timeout;
     let lateness = idle.lateness;
-    // The sum may pass the top, the differences do not.
-    let past = arith::saturating_sub(clock.0, table::end_of(state, i));
-    (timeout.0 != 0) & (timeout.0 <= past) & (lateness.0 <= arith::saturating_sub(past, timeout.0))
+    rules::leaves(table::end_of(state, i), timeout.0, lateness.0, clock.0)
 }
 
 // The slot, unless its flow leaves.

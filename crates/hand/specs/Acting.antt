@@ -2,9 +2,12 @@
 use Prim.Native.Nat.{ℕ, _+_, _*_, _≤_, _<_}
 use mathlib.Core.Path.{_≡_, _∙_}
 use mathlib.Core.List.{List, [], map}
-use mathlib.Core.Option.{Option, none}
+use mathlib.Core.Option.{Option, none, some}
 use lib.ListN.{length, drop, getD, set}
 use Rattle.queue.specs.Tree.{node}
+use Rattle.flow.specs.declared.time.EndReason.{EndReason}
+use Rattle.flow.specs.declared.time.OptEndReason.{OptEndReason}
+use Rattle.flow.specs.declared.time.OptEndReason.the-variants.{Absent, Present}
 use Rattle.slots.specs.Table.{slots}
 use Rattle.slots.specs.declared.Found.{Found}
 use Rattle.slots.specs.declared.Found.the-variants as Found
@@ -56,3 +59,10 @@ at l Found.Nothing = none
 abbrev pub emptiedAt : Found → Slots engine → Slots engine
 emptiedAt (Found.At i) l = set l i none
 emptiedAt Found.Nothing l = l
+
+-- ## Why a flow ends
+
+-- the reason, if there is one
+abbrev pub reasonOf : OptEndReason → Option EndReason
+reasonOf Absent = none
+reasonOf (Present r) = some r

@@ -19,7 +19,6 @@ use Rattle.flow.specs.declared.time.Nanos.{Nanos}
 use Rattle.flow.specs.declared.time.TimeResolution.{TimeResolution}
 use Rattle.flow.specs.declared.time.EndReason.the-variants.{IdleTimeout, Fin}
 use Rattle.flow.specs.declared.time.OptEndReason.{OptEndReason}
-use Rattle.flow.specs.declared.time.OptEndReason.the-variants.{Absent, Present}
 use Rattle.wire.specs.PacketTheorems.{PacketInRange}
 use Rattle.wire.specs.declared.packet.Packet.{Packet}
 use Rattle.rules.specs.Order.{sort, those}
@@ -44,21 +43,15 @@ use Rattle.act.specs.Size.{long-enough}
 use Rattle.act.specs.Whole.{untouched-sound}
 use Rattle.act.specs.Clock.{clockedAt}
 use Rattle.act.specs.Keep.{flowUnder}
-use Rattle.act.specs.Settle.{reasonOf}
 use Rattle.sweeps.specs.Promise.{Left}
-use Rattle.sweeps.specs.StateLaws.{lateness-wide, slots-same, sound-names, meaning-view, means-after, left-queue}
+use Rattle.sweeps.specs.StateLaws.{lateness-wide, slots-same, sound-names, meaning-view, means-after, left-queue, left-twice}
 use Rattle.packet.specs.declared.Step.{Step}
 use Rattle.packet.specs.declared.Plan.{Plan}
 use Rattle.packet.specs.Step.{InCall, StepTold, PacketDone}
-use Rattle.packet.specs.Feed.{left-twice}
 use Rattle.packet.specs.Doing.{flowFound, sweptBy, finishedBy, verdictOn, PlannedAt, PlanStands, Stepped, CarryAsked, besideFound, Performed, Unperformed, CarriedOut}
 use Rattle.packet.proofs.Sizes.{verdict-refused, verdict-zero, verdict-seven}
 use Rattle.packet.proofs.Performing.{meaning-many, flows-one}
-
--- the two words for a decision's reason say the same
-same-reason : (r : OptEndReason) → reasonOf r ≡ Decide.reasonOf r
-same-reason Absent = refl
-same-reason (Present e) = refl
+use Rattle.hand.specs.Acting.{reasonOf}
 
 -- as many flows stay as do not leave
 stay-many : (T L w : ℕ) (table : List (List ℕ)) (k : ℕ)
@@ -213,7 +206,7 @@ module _ (s index free : List ℕ) (c : ℕ) (idle : Idle) (resolution : TimeRes
             go Found.Nothing e = ap (flowFound s1) e ∙ sym (ended-none choice e)
 
         reason-is : reasonOf (d .reason) ≡ ending engine (endedFlow p staying) p taker
-        reason-is = same-reason (d .reason) ∙ decided .reason
+        reason-is = decided .reason
 
         swept-is : sweptBy s1 c (take n l) ≡ swept engine settings w (meaning s .flows)
         swept-is =

@@ -31,7 +31,7 @@ use Rattle.state.specs.SlotTest.{foundIt}
 use Rattle.state.specs.Free.{freeCount}
 use Rattle.state.specs.Change.{lastFree, open-and-free, absent-fresh, distinct-flows}
 use Rattle.plan.proofs.Flows.{end-told}
-use Rattle.hand.specs.Acting.{Acted}
+use Rattle.hand.specs.Acting.{Acted, reasonOf}
 use Rattle.hand.specs.Freed.{sizes-written}
 use Rattle.decide.specs.Decide.{stayingSlots, leftFlows, Chosen}
 use Rattle.decide.specs.Settle.{freedBy}
@@ -40,9 +40,9 @@ use Rattle.decide.proofs.Chosen.{taker-sits, new-own, new-turned, left-meaning}
 use Rattle.act.specs.Clock.{clockedAt, Clocked, clock-acted}
 use Rattle.act.specs.Free.{last-free-low, last-free-none, under-absent}
 use Rattle.act.specs.Keep.{flowUnder, OldFlow, NewFlow}
-use Rattle.act.specs.Settle.{Filled, reasonOf, SettleAsked, settledSlots}
+use Rattle.act.specs.Settle.{Filled, SettleAsked, settledSlots}
 use Rattle.sweeps.specs.StateLaws.{listed-many}
-use Rattle.packet.specs.Feed.{written-both}
+use Rattle.rules.specs.EngineLaws.{written-both}
 use Rattle.packet.specs.Meant.{OldTaker, NewTaker, settled-means}
 use Rattle.packet.specs.Doing.{sweptBy, endedBy, takenBy, finishedBy, countOf, PlanStands, DecidedFor, LeavingAsked, leftSlots, LeftHanded, Stepped, PerformAsked, besideFound, Performed}
 use Rattle.packet.proofs.Output.{filled-both}

@@ -25,8 +25,8 @@ use Rattle.state.specs.Slot.{flowIn}
 use Rattle.hand.specs.Slot.{flowAs}
 use Rattle.decide.specs.declared.decide.Decision.{Decision}
 use Rattle.act.specs.Keep.{flowUnder}
-use Rattle.act.specs.Settle.{reasonOf}
 use Rattle.packet.specs.Doing.{sweptBy, endedBy, takenBy, finishedBy, verdictOn}
+use Rattle.hand.specs.Acting.{reasonOf}
 
 -- ## Sums
 

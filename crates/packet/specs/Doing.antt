@@ -27,13 +27,13 @@ use Rattle.state.specs.Names.{flowsOf}
 use Rattle.state.specs.Ready.{Ready}
 use Rattle.plan.specs.Plan.{leavesBy, Planned, PlanMade}
 use Rattle.hand.specs.Act.{Listed}
-use Rattle.hand.specs.Acting.{Busy, Acted, emptiedAt}
+use Rattle.hand.specs.Acting.{Busy, Acted, emptiedAt, reasonOf}
 use Rattle.decide.specs.Decide.{stayingSlots, Stays, Decided}
 use Rattle.decide.specs.Settle.{SlotSound}
 use Rattle.decide.specs.declared.decide.Decision.{Decision}
 use Rattle.act.specs.Clock.{clockedAt}
 use Rattle.act.specs.Keep.{flowUnder}
-use Rattle.act.specs.Settle.{Filled, reasonOf}
+use Rattle.act.specs.Settle.{Filled}
 use Rattle.sweeps.specs.Promise.{Left}
 use Rattle.packet.specs.declared.Step.{Step}
 use Rattle.packet.specs.declared.Plan.{Plan}

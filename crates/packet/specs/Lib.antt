@@ -1,10 +1,4 @@
-pub mod Batch
 pub mod Step
-pub mod Feed
-pub mod Calls
 pub mod Meant
 pub mod Handed
 pub mod Doing
-pub mod FeedOne
-pub mod FeedLoop
-pub mod FeedCall

@@ -17,9 +17,10 @@ use Rattle.rules.specs.Rules as R
 use Rattle.rules.specs.Engine.{engine}
 use Rattle.rules.specs.Slots.{Slots, occupied, meaning, freed, changed, entered, cleared}
 use Rattle.plan.specs.Plan.{leavesBy}
-use Rattle.act.specs.Settle.{reasonOf, settledSlots}
+use Rattle.act.specs.Settle.{settledSlots}
 use Rattle.decide.specs.Decide.{stayingSlots, endedFlow, leftFlows, takerOn}
 use Rattle.state.specs.State.{slotsOf}
+use Rattle.hand.specs.Acting.{reasonOf}
 
 -- ## Steps 3 and 4 on slots
 

@@ -1,6 +1,5 @@
 // One packet of a batch: what it will do is decided first, on the flows as its sweep will leave them; then it is done, or refused and
 // nothing is done.
-pub mod feed;
 pub mod perform;
 pub mod size;
 
@@ -20,17 +19,6 @@ ghost use Rattle.packet.specs.Doing.{PlannedAt};
 pub struct Step {
     pub refusal: u8,
     pub opened: bool,
-    pub records: usize,
-    pub bytes: usize,
-}
-
-// What feeding a batch did: the refusal's number, 0 for none; the packets taken and the bytes of the batch that they fill; the flows
-// opened; the records written, and their bytes.
-pub struct Answer {
-    pub refusal: u8,
-    pub packets: usize,
-    pub used: usize,
-    pub opened: usize,
     pub records: usize,
     pub bytes: usize,
 }

@@ -4,6 +4,7 @@ use crate::size::verdict;
 use act::settle::end_ended;
 use act::settle::settle;
 use decide::decide::Decision;
+use decide::decide::freed_by;
 use flow::time::EndReason;
 use flow::time::Idle;
 use flow::time::Nanos;
@@ -18,7 +19,6 @@ ghost use Rattle.slots.specs.Table.{slots};
 ghost use Rattle.rules.specs.Engine.{written};
 ghost use Rattle.state.specs.State.{slotsOf};
 ghost use Rattle.state.specs.Change.{lastFree};
-ghost use Rattle.decide.specs.Settle.{freedBy};
 ghost use Rattle.act.specs.Settle.{Filled, SettleAsked, settledSlots};
 ghost use Rattle.packet.specs.Doing.{takenBy, countOf, LeavingAsked, LeftHanded, Stepped, PerformAsked, Performed, refusedStep, CarryAsked, CarriedOut};
 
@@ -31,16 +31,6 @@ fn refused(number: u8) -> Step
         opened: false,
         records: 0,
         bytes: 0,
-    }
-}
-
-// How many records step 1 finishes.
-fn ended_count(ended: Found) -> usize
-    ensures { λ r. ⌜ r ≡ freedBy ended ⌝ }
-{
-    match ended {
-        Found::At(_) => 1,
-        Found::Nothing => 0,
     }
 }
 
@@ -177,7 +167,7 @@ fn perform(
     Step {
         refusal: 0,
         opened: !is_found(slot),
-        records: n + ended_count(ended) + ending_count(reason),
+        records: n + freed_by(ended) + ending_count(reason),
         bytes: first + rest,
     }
 }

@@ -17,8 +17,8 @@ ghost use Rattle.rules.specs.Rules.{endedFor, sizes};
 ghost use Rattle.rules.specs.Engine.{engine};
 ghost use Rattle.decide.specs.Settle.{SlotSound};
 ghost use Rattle.act.specs.Keep.{flowUnder};
-ghost use Rattle.act.specs.Settle.{reasonOf};
 ghost use Rattle.packet.specs.Doing.{endedBy, verdictOn, VerdictAsked};
+ghost use Rattle.hand.specs.Acting.{reasonOf};
 
 // The refusal of a packet whose records do not fit into the output.
 const ROOM: u8 = 7;

@@ -2,9 +2,8 @@
 -- plan changes the queue alone, which then no longer names the listed slots; a drain's plan changes nothing.
 use Prim.Native.Nat.{ℕ, _+_, _*_, _≤_, _<_}
 use mathlib.Core.Path.{_≡_}
-use mathlib.Core.Bool.{Bool, true, not, _&&_}
+use mathlib.Core.Bool.{Bool, true}
 use mathlib.Core.List.{List, []}
-use lib.Dec.{leb, eqb}
 use lib.ListN.{length}
 use Rattle.queue.specs.Tree.{node, never}
 use Rattle.slots.specs.Table.{isUsed}
@@ -16,6 +15,7 @@ use Rattle.state.specs.Names.{OneOf, Once, flowsOf, NamesAllBut, QueueOnly, Ope
 use Rattle.rules.specs.Order.{sort, those}
 use Rattle.rules.specs.Totals.{All}
 use Rattle.rules.specs.Rules.{Flow, byEnd}
+use Rattle.rules.specs.Due.{idle}
 use Rattle.rules.specs.Engine.{engine}
 use Rattle.rules.specs.Slots.{meaning}
 
@@ -23,7 +23,7 @@ use Rattle.rules.specs.Slots.{meaning}
 
 -- "end + T + L is at most W"; with timeout 0 none
 abbrev pub leavesBy : ℕ → ℕ → ℕ → Flow engine → Bool
-leavesBy T L w f = not (eqb T 0) && leb (engine .latest (f .held) + T + L) w
+leavesBy T L w f = idle (engine .latest (f .held)) T L w
 
 -- a listed slot: its flow passes the test, and it is out of the queue
 pub record Leaving (c : ℕ) (test : Flow engine → Bool) (table : List (List ℕ)) (tree : List ℕ) (i : ℕ) : Type 0 where

@@ -1,9 +1,10 @@
 -- The engine's own terms meet what the third demand and soundness ask of terms. Assumes nothing.
 use mathlib.Core.Path.{_≡_, refl, sym, ap, _∙_}
 use mathlib.Core.Bool.{Bool, true, false, not, _&&_}
+use mathlib.Core.List.{List, [], _∷_, _++_, append-assoc}
 use Prim.Native.Nat.{ℕ, _^_, _<_, _≤_}
 use native.Mathlib.Omega.{arith}
-use Rattle.forms.specs.Optional.{number8, number16, number32}
+use Rattle.forms.specs.Optional.{number8, number16}
 use Rattle.forms.specs.declared.optional.OptU8.{OptU8}
 use Rattle.forms.specs.declared.optional.OptU16.{OptU16}
 use Rattle.key.specs.Key.{reversedKey, reversed-twice, reversal-both}
@@ -31,9 +32,10 @@ use Rattle.flow.specs.declared.record.Direction.the-variants.{Forward, Reverse}
 use Rattle.flow.specs.declared.record.FlowRecord.{FlowRecord}
 use Rattle.wire.specs.declared.packet.Packet.{Packet}
 use Rattle.wire.specs.PacketTheorems.{PacketInRange}
-use Rattle.wire.specs.RecordForm.{leastOf32, greatestOf32, leastOf8, greatestOf8, directionFields, fieldsOf}
+use Rattle.wire.specs.RecordForm.{LengthsInRange, TtlInRange, directionFields, fieldsOf}
 use Rattle.wire.specs.RecordTheorems.{FlagsInRange, DirectionInRange, FlowInRange, record-at-most}
-use Rattle.rules.specs.Engine.{engine, keyBytes, isAssociation, begunWith, finSeen, bothFins, finishedFlow, recordSize}
+use Rattle.rules.specs.Rules.{Finished}
+use Rattle.rules.specs.Engine.{engine, keyBytes, isAssociation, begunWith, finSeen, bothFins, finishedFlow, recordForm, recordSize, written}
 use Rattle.rules.specs.Demand.{Timed, Tally}
 use Rattle.rules.specs.Sound.{KeyLaws, HeldLaws, TwoWay}
 
@@ -135,12 +137,6 @@ engine-keys = record {
 }
 
 -- ## Records
-
-abbrev pub LengthsInRange : OptRange32 → Type 0
-LengthsInRange o = (number32 (leastOf32 o) ≤ 2 ^ 32) × (number32 (greatestOf32 o) ≤ 2 ^ 32)
-
-abbrev pub TtlInRange : OptRange8 → Type 0
-TtlInRange o = (number8 (leastOf8 o) ≤ 2 ^ 8) × (number8 (greatestOf8 o) ≤ 2 ^ 8)
 
 -- an open flow: its key in range, its record "sound, end reason aside", and what that leaves to the fields' types
 pub record SoundFlow (k : FlowKey) (r : FlowRecord) : Type 0 where
@@ -315,3 +311,11 @@ flow-in-range k reason r a =
 
 pub size-at-most : (k : FlowKey) (reason : EndReason) (r : FlowRecord) → SoundFlow k r → recordSize k reason r ≤ 358
 size-at-most k reason r a = record-at-most (finishedFlow k reason r) (flow-in-range k reason r a)
+
+-- ## The records of one call behind those of another
+
+pub written-both : (a b : List (Finished engine)) → written (a ++ b) ≡ written a ++ written b
+written-both [] b = refl
+written-both (f ∷ a) b =
+    ap (λ (l : List ℕ). recordForm (f .name) (f .reason) (f .held) ++ l) (written-both a b)
+    ∙ sym (append-assoc (recordForm (f .name) (f .reason) (f .held)) (written a) (written b))

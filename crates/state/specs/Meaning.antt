@@ -5,11 +5,8 @@ use mathlib.Core.Bool.{Bool, true, false}
 use mathlib.Core.List.{List, []}
 use native.Mathlib.Omega.{arith}
 use lib.ListN.{length, getD}
-use Rattle.stats.specs.declared.range.OptRange8.{OptRange8}
-use Rattle.stats.specs.declared.range.OptRange32.{OptRange32}
 use Rattle.slots.specs.Table.{slot, slots, isUsed, keyOf, NoKeyTwice}
 use Rattle.slots.proofs.Laws.{getD-slots, length-slots}
-use Rattle.words.specs.Kept as K
 use Rattle.words.specs.Kept.{RecordInRange, record-in-range}
 use Rattle.flow.specs.declared.record.FlowRecord.{FlowRecord}
 use Rattle.flow.specs.Sound.{soundAside}
@@ -20,7 +17,7 @@ use Rattle.rules.specs.Order.{equal}
 use Rattle.rules.specs.Account.{equal-true}
 use Rattle.rules.specs.Rules.{byKey}
 use Rattle.rules.specs.Engine.{engine, keyBytes, isAssociation}
-use Rattle.rules.specs.EngineLaws.{SoundFlow, LengthsInRange, TtlInRange}
+use Rattle.rules.specs.EngineLaws.{SoundFlow}
 use Rattle.rules.specs.EngineSlots.{slots-sound}
 use Rattle.rules.specs.EngineSlots as E
 use Rattle.rules.specs.EngineSound.{SoundEngine}
@@ -33,44 +30,28 @@ use Rattle.state.specs.State.{headerIn, capacityIn, turned, one-way, Sou
 
 -- ## A sound slot's flow is sound
 
-lengths-same : (o : OptRange32) → K.LengthsInRange o → LengthsInRange o
-lengths-same OptRange32.Absent h = h
-lengths-same (OptRange32.Present r) h = h
-
-ttl-same : (o : OptRange8) → K.TtlInRange o → TtlInRange o
-ttl-same OptRange8.Absent h = h
-ttl-same (OptRange8.Present r) h = h
-
 pub flow-of : (k : FlowKey) (r : FlowRecord) → KeyInRange k → soundAside r ≡ true → RecordInRange r → SoundFlow k r
 flow-of k r ok sound h = record {
   key = ok;
   sound = sound;
   start = h .start;
   end = h .end;
-  forward = lengths-same (r .forward .«packet_length») (h .forward);
-  reverse = lengths-same (r .reverse .«packet_length») (h .reverse);
-  ttl = ttl-same (r .network .ttl) (h .ttl);
+  forward = h .forward;
+  reverse = h .reverse;
+  ttl = h .ttl;
   dscp = h .dscp;
   ecn = h .ecn;
   icmp = h .icmp;
   captured = h .captured;
 }
 
-lengths-back : (o : OptRange32) → LengthsInRange o → K.LengthsInRange o
-lengths-back OptRange32.Absent h = h
-lengths-back (OptRange32.Present r) h = h
-
-ttl-back : (o : OptRange8) → TtlInRange o → K.TtlInRange o
-ttl-back OptRange8.Absent h = h
-ttl-back (OptRange8.Present r) h = h
-
 pub record-of-flow : (k : FlowKey) (r : FlowRecord) → SoundFlow k r → RecordInRange r
 record-of-flow k r h = record {
   start = h .start;
   end = h .end;
-  forward = lengths-back (r .forward .«packet_length») (h .forward);
-  reverse = lengths-back (r .reverse .«packet_length») (h .reverse);
-  ttl = ttl-back (r .network .ttl) (h .ttl);
+  forward = h .forward;
+  reverse = h .reverse;
+  ttl = h .ttl;
   dscp = h .dscp;
   ecn = h .ecn;
   icmp = h .icmp;

@@ -18,7 +18,8 @@ use Rattle.table.specs.Due.{dueOf}
 use Rattle.table.specs.declared.Header.{Header}
 use Rattle.table.proofs.Laws.{slot-view}
 use Rattle.table.proofs.HeaderLaws.{cleared-header, cleared-free, cleared-queue}
-use Rattle.words.specs.Fields.{resolutionNumber, resolutionAt}
+use Rattle.wire.specs.RecordForm.{resolutionNumber}
+use Rattle.words.specs.FieldLaws.{resolution-back, resolution-fits}
 use Rattle.flow.specs.Idle.{timeoutOf, latenessOf, idleOf}
 use Rattle.flow.specs.declared.time.Idle.{Idle}
 use Rattle.flow.specs.declared.time.Millis.{Millis}
@@ -109,21 +110,13 @@ module _ (s : List ℕ) (c : ℕ) (ms : Millis) (resolution : TimeResolution) wh
 
 -- ## "Opening, unrefused, leaves a sound state with the settings asked for, every clock 0 and no flow open"
 
-resolution-back : (resolution : TimeResolution) → resolutionAt (resolutionNumber resolution) ≡ resolution
-resolution-back TimeResolution.Microseconds = refl
-resolution-back TimeResolution.Nanoseconds = refl
-
-resolution-small : (resolution : TimeResolution) → resolutionNumber resolution ≤ 1
-resolution-small TimeResolution.Microseconds = omega arith
-resolution-small TimeResolution.Nanoseconds = omega arith
-
 header-fits : (c : ℕ) (ms : Millis) (resolution : TimeResolution) → c ≤ 4096 → HeaderFits (openedHeader c ms resolution)
 header-fits c ms resolution m = record {
   layout = omega arith;
   capacity = omega arith;
   timeout = omega arith;
   lateness = omega arith;
-  resolution = omega (arith, resolution-small resolution);
+  resolution = omega (arith, resolution-fits resolution);
   clock = omega arith;
 }
 
@@ -165,7 +158,7 @@ module _ (c : ℕ) (ms : Millis) (resolution : TimeResolution) (v : View) (s : L
     long = long;
     timeout = record { timeout = ms; small = small; gives = refl };
     lateness = refl;
-    resolution = resolution-small resolution;
+    resolution = resolution-fits resolution;
     still = λ z. refl;
   }
 

@@ -15,7 +15,7 @@ use Rattle.table.specs.View.{view}
 use Rattle.table.specs.Due.{dueOf, endOf}
 use Rattle.table.specs.Header.{headerOf}
 use Rattle.table.specs.declared.Header.{Header}
-use Rattle.words.specs.Fields.{resolutionAt}
+use Rattle.wire.specs.RecordForm.{resolutionFrom}
 use Rattle.flow.specs.Idle.{timeoutOf, latenessOf}
 use Rattle.flow.specs.declared.time.Millis.{Millis}
 use Rattle.key.specs.Key.{reversedKey}
@@ -89,7 +89,7 @@ pub record Sound (s : List ℕ) : Type 0 where
 -- ## What a state means
 
 unfoldable pub settingsOf : Header → Settings
-settingsOf h = record { T = h .timeout .0; L = h .lateness .0; resolution = resolutionAt (h .resolution); capacity = h .capacity }
+settingsOf h = record { T = h .timeout .0; L = h .lateness .0; resolution = resolutionFrom (h .resolution); capacity = h .capacity }
 
 abbrev pub settingsIn : List ℕ → Settings
 settingsIn s = settingsOf (headerIn s)

@@ -2,7 +2,7 @@
 use flow::time::Idle;
 use flow::time::Millis;
 use flow::time::TimeResolution;
-use words::fields::resolution_number;
+use wire::record::resolution_number;
 ghost use Rattle.state.specs.Opening.{Opened};
 
 pub enum Opening {

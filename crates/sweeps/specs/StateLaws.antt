@@ -147,7 +147,7 @@ left-queue v v′ same spare =
     }
 
 -- one step after another
-left-twice : (v v1 v2 : View) → Left v v1 → Left v1 v2 → Left v v2
+pub left-twice : (v v1 v2 : View) → Left v v1 → Left v1 v2 → Left v v2
 left-twice v v1 v2 p q = record {
   settings = q .settings ∙ p .settings;
   spare-header = q .spare-header ∙ p .spare-header;

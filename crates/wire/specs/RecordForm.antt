@@ -1,5 +1,5 @@
 -- The record form (document 01, "Byte forms").
-use Prim.Native.Nat.{ℕ, zero, suc}
+use Prim.Native.Nat.{ℕ, zero, suc, _^_, _≤_}
 use mathlib.Core.Path.{_≡_, refl, sym}
 use mathlib.Core.List.{List, [], _∷_}
 use mathlib.Core.Bool.{Bool, true, false, cond, _&&_}
@@ -10,7 +10,7 @@ use lib.ListN.{length}
 use Rattle.forms.specs.Form.{Form, Read, got, short, refused, one, one-valid, over, pair}
 use Rattle.forms.specs.Number.{number, number-below}
 use Rattle.forms.specs.At.{readAt}
-use Rattle.forms.specs.Optional.{optional8, optional16, optional32}
+use Rattle.forms.specs.Optional.{number8, number32, optional8, optional16, optional32}
 use Rattle.forms.specs.Lone.{Answer, value, refusal, Written, wrote, unwritten}
 use Rattle.forms.specs.declared.optional.OptU8.{OptU8}
 use Rattle.forms.specs.declared.optional.OptU16.{OptU16}
@@ -222,6 +222,14 @@ leastOf8 (OptRange8.Present r) = OptU8.Present (r .min)
 abbrev pub greatestOf8 : OptRange8 → OptU8
 greatestOf8 OptRange8.Absent = OptU8.Absent
 greatestOf8 (OptRange8.Present r) = OptU8.Present (r .max)
+
+-- both bounds are numbers of 32 bits, where there are any
+abbrev pub LengthsInRange : OptRange32 → Type 0
+LengthsInRange o = (number32 (leastOf32 o) ≤ 2 ^ 32) × (number32 (greatestOf32 o) ≤ 2 ^ 32)
+
+-- both bounds are numbers of 8 bits, where there are any
+abbrev pub TtlInRange : OptRange8 → Type 0
+TtlInRange o = (number8 (leastOf8 o) ≤ 2 ^ 8) × (number8 (greatestOf8 o) ≤ 2 ^ 8)
 
 -- the range of two bounds, where both are there
 abbrev pub range32From : OptU32 → OptU32 → OptRange32

@@ -104,7 +104,7 @@ fn reason_from(number: u64) -> EndReason
     }
 }
 
-fn state_from(number: u64) -> StartState
+pub fn state_from(number: u64) -> StartState
     ensures { λ r. ⌜ r ≡ stateFrom number ⌝ }
 {
     match number {
@@ -114,7 +114,7 @@ fn state_from(number: u64) -> StartState
     }
 }
 
-fn resolution_from(number: u64) -> TimeResolution
+pub fn resolution_from(number: u64) -> TimeResolution
     ensures { λ r. ⌜ r ≡ resolutionFrom number ⌝ }
 {
     match number {
@@ -146,7 +146,7 @@ fn reason_number(reason: OptEndReason) -> u64
     }
 }
 
-fn state_number(state: StartState) -> u64
+pub fn state_number(state: StartState) -> u64
     ensures { λ r. ⌜ r ≡ stateNumber state ⌝ }
 {
     match state {
@@ -156,7 +156,7 @@ fn state_number(state: StartState) -> u64
     }
 }
 
-fn resolution_number(resolution: TimeResolution) -> u64
+pub fn resolution_number(resolution: TimeResolution) -> u64
     ensures { λ r. ⌜ r ≡ resolutionNumber resolution ⌝ }
 {
     match resolution {
@@ -165,7 +165,7 @@ fn resolution_number(resolution: TimeResolution) -> u64
     }
 }
 
-fn bit_number(bit: bool) -> u64
+pub fn bit_number(bit: bool) -> u64
     ensures { λ r. ⌜ r ≡ bitNumber bit ⌝ }
 {
     if bit { 1 } else { 0 }
@@ -548,7 +548,7 @@ pub fn read_record(s: &[u8]) -> ReadRecord
 // ---- lengths
 
 // The numbers that stand for the bounds of a range.
-fn least_number32(range: OptRange32) -> u64
+pub fn least_number32(range: OptRange32) -> u64
     ensures { λ r. ⌜ r ≡ number32 (leastOf32 range) ⌝ }
 {
     match range {
@@ -557,7 +557,7 @@ fn least_number32(range: OptRange32) -> u64
     }
 }
 
-fn greatest_number32(range: OptRange32) -> u64
+pub fn greatest_number32(range: OptRange32) -> u64
     ensures { λ r. ⌜ r ≡ number32 (greatestOf32 range) ⌝ }
 {
     match range {
@@ -566,7 +566,7 @@ fn greatest_number32(range: OptRange32) -> u64
     }
 }
 
-fn least_number8(range: OptRange8) -> u64
+pub fn least_number8(range: OptRange8) -> u64
     ensures { λ r. ⌜ r ≡ number8 (leastOf8 range) ⌝ }
 {
     match range {
@@ -575,7 +575,7 @@ fn least_number8(range: OptRange8) -> u64
     }
 }
 
-fn greatest_number8(range: OptRange8) -> u64
+pub fn greatest_number8(range: OptRange8) -> u64
     ensures { λ r. ⌜ r ≡ number8 (greatestOf8 range) ⌝ }
 {
     match range {

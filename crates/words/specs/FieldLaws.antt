@@ -1,6 +1,6 @@
 -- Laws of the fields: what the code answers, that a field is read back from its word, and that a word that fits is written back.
 -- Assumes nothing.
-use Prim.Native.Nat.{ℕ, zero, suc, min, _+_, _-_, _≤_}
+use Prim.Native.Nat.{ℕ, zero, suc, min, _-_, _≤_}
 use mathlib.Core.Path.{_≡_, refl, ap}
 use mathlib.Core.Bool.{Bool, true, false, _&&_, _||_, false≢true}
 use native.Mathlib.Omega.{arith}
@@ -10,25 +10,15 @@ use lib.Dec.{leb, ltb, eqb}
 use Rattle.forms.specs.Optional.{toOpt, number8, number16, number32}
 use Rattle.forms.specs.declared.optional.OptU8.{OptU8}
 use Rattle.forms.specs.declared.optional.OptU16.{OptU16}
-use Rattle.stats.specs.declared.range.Range8.{Range8}
 use Rattle.stats.specs.declared.range.OptRange8.{OptRange8}
-use Rattle.stats.specs.declared.range.Range32.{Range32}
 use Rattle.stats.specs.declared.range.OptRange32.{OptRange32}
 use Rattle.flow.specs.declared.time.StartState.{StartState}
 use Rattle.flow.specs.declared.time.TimeResolution.{TimeResolution}
 use Rattle.flow.specs.SoundLaws.{both}
-use Rattle.words.specs.Fields.{stateNumber, stateAt, resolutionNumber, resolutionAt, bitNumber, opt8At, opt16At, leastOf8, greatestOf8, range8At, leastOf32, greatestOf32, range32At, boundsFit, BoundsFit}
+use Rattle.wire.specs.RecordForm.{stateNumber, stateFrom, resolutionNumber, resolutionFrom, bitNumber, leastOf8, greatestOf8, leastOf32, greatestOf32}
+use Rattle.words.specs.Fields.{opt8At, opt16At, range8At, range32At, boundsFit, BoundsFit}
 
 -- ---- what the code answers, by cases
-
-pub last-state : (w : ℕ) → (w ≡ 0 → ⊥) → (w ≡ 1 → ⊥) → StartState.NotApplicable ≡ stateAt w
-last-state zero a b = absurd (a refl)
-last-state (suc zero) a b = absurd (b refl)
-last-state (suc (suc w)) a b = refl
-
-pub last-resolution : (w : ℕ) → (w ≡ 0 → ⊥) → TimeResolution.Nanoseconds ≡ resolutionAt w
-last-resolution zero a = absurd (a refl)
-last-resolution (suc w) a = refl
 
 less-one : (n : ℕ) → suc n - 1 ≡ n
 less-one n = omega arith
@@ -45,18 +35,6 @@ range8-present (suc l) g h = rw less-one
 pub range32-present : (l g : ℕ) → (l ≡ 0 → ⊥) → OptRange32.Present (record { min = l - 1; max = g - 1 }) ≡ range32At l g
 range32-present zero g h = absurd (h refl)
 range32-present (suc l) g h = rw less-one
-
-pub least8 : {o : OptRange8} {r : Range8} → o ≡ OptRange8.Present r → r .min + 1 ≡ number8 (leastOf8 o)
-least8 e = rw e
-
-pub greatest8 : {o : OptRange8} {r : Range8} → o ≡ OptRange8.Present r → r .max + 1 ≡ number8 (greatestOf8 o)
-greatest8 e = rw e
-
-pub least32 : {o : OptRange32} {r : Range32} → o ≡ OptRange32.Present r → r .min + 1 ≡ number32 (leastOf32 o)
-least32 e = rw e
-
-pub greatest32 : {o : OptRange32} {r : Range32} → o ≡ OptRange32.Present r → r .max + 1 ≡ number32 (greatestOf32 o)
-greatest32 e = rw e
 
 -- ---- the test of two bounds
 
@@ -95,12 +73,12 @@ bounds-made most (suc l) (suc g) f =
 
 -- ---- a field is read back from its word
 
-pub state-back : (s : StartState) → stateAt (stateNumber s) ≡ s
+pub state-back : (s : StartState) → stateFrom (stateNumber s) ≡ s
 state-back StartState.SynObserved = refl
 state-back StartState.MidStream = refl
 state-back StartState.NotApplicable = refl
 
-pub resolution-back : (r : TimeResolution) → resolutionAt (resolutionNumber r) ≡ r
+pub resolution-back : (r : TimeResolution) → resolutionFrom (resolutionNumber r) ≡ r
 resolution-back TimeResolution.Microseconds = refl
 resolution-back TimeResolution.Nanoseconds = refl
 
@@ -126,12 +104,12 @@ range32-back (OptRange32.Present r) = simp (add-one, less-one)
 
 -- ---- a word that fits is written back
 
-pub state-written : (w : ℕ) → w ≤ 2 → stateNumber (stateAt w) ≡ w
+pub state-written : (w : ℕ) → w ≤ 2 → stateNumber (stateFrom w) ≡ w
 state-written zero h = refl
 state-written (suc zero) h = refl
 state-written (suc (suc w)) h = omega arith
 
-pub resolution-written : (w : ℕ) → w ≤ 1 → resolutionNumber (resolutionAt w) ≡ w
+pub resolution-written : (w : ℕ) → w ≤ 1 → resolutionNumber (resolutionFrom w) ≡ w
 resolution-written zero h = refl
 resolution-written (suc w) h = omega arith
 

@@ -19,7 +19,8 @@ use Rattle.flow.specs.declared.time.OptEndReason.the-variants.{Absent}
 use Rattle.flow.specs.declared.record.FlowRecord.{FlowRecord}
 use Rattle.flow.specs.Sound.{soundAside}
 use Rattle.flow.specs.SoundLaws.{both, SoundFacts, sound-facts}
-use Rattle.words.specs.Fields.{stateNumber, resolutionNumber, bitNumber, leastOf8, greatestOf8, range8At, leastOf32, greatestOf32, range32At, boundsFit, BoundsFit}
+use Rattle.wire.specs.RecordForm.{stateNumber, resolutionNumber, bitNumber, leastOf8, greatestOf8, leastOf32, greatestOf32, LengthsInRange, TtlInRange}
+use Rattle.words.specs.Fields.{range8At, range32At, boundsFit, BoundsFit}
 use Rattle.words.specs.FieldLaws.{bounds-made, state-back, resolution-back, bit-back, opt8-back, opt16-back, range8-back, range32-back, state-written, resolution-written, bit-written, opt8-written, opt16-written, least8-written, greatest8-written, least32-written, greatest32-written, state-fits, resolution-fits, bit-fits, range8-fits, range32-fits}
 use Rattle.words.specs.Words.{sharedWords, flagWords, directionWords, wordsOf, directionAt, recordOf, wordsFit}
 use Rattle.words.specs.WordLaws.{fit-facts}
@@ -109,14 +110,6 @@ words-back ws n e =
     (sym (spell ws n))
 
 -- ---- fields in the range of their types
-
--- both bounds are numbers of 32 bits, where there are any
-abbrev pub LengthsInRange : OptRange32 → Type 0
-LengthsInRange o = (number32 (leastOf32 o) ≤ 2 ^ 32) × (number32 (greatestOf32 o) ≤ 2 ^ 32)
-
--- both bounds are numbers of 8 bits, where there are any
-abbrev pub TtlInRange : OptRange8 → Type 0
-TtlInRange o = (number8 (leastOf8 o) ≤ 2 ^ 8) × (number8 (greatestOf8 o) ≤ 2 ^ 8)
 
 -- each field that soundness does not bound is in the range of its type
 pub record RecordInRange (r : FlowRecord) : Type 0 where

@@ -11,7 +11,8 @@ use Rattle.stats.specs.declared.counts.NetworkStats.{NetworkStats}
 use Rattle.flow.specs.declared.time.OptEndReason.{OptEndReason}
 use Rattle.flow.specs.declared.time.FlowTime.{FlowTime}
 use Rattle.flow.specs.declared.record.FlowRecord.{FlowRecord}
-use Rattle.words.specs.Fields.{stateNumber, stateAt, resolutionNumber, resolutionAt, bitNumber, opt8At, opt16At, leastOf8, greatestOf8, range8At, leastOf32, greatestOf32, range32At, boundsFit, BoundsFit}
+use Rattle.wire.specs.RecordForm.{stateNumber, stateFrom, resolutionNumber, resolutionFrom, bitNumber, leastOf8, greatestOf8, leastOf32, greatestOf32}
+use Rattle.words.specs.Fields.{opt8At, opt16At, range8At, range32At, boundsFit, BoundsFit}
 
 -- ---- the words of a record
 
@@ -48,8 +49,8 @@ abbrev pub timeAt : List ℕ → FlowTime
 timeAt ws = record {
   start = record { 0 = getD ws 0 0 };
   end = record { 0 = getD ws 1 0 };
-  resolution = resolutionAt (getD ws 3 0);
-  «start_state» = stateAt (getD ws 2 0);
+  resolution = resolutionFrom (getD ws 3 0);
+  «start_state» = stateFrom (getD ws 2 0);
   «end_reason» = OptEndReason.Absent;
 }
 

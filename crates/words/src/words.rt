@@ -1,20 +1,11 @@
 // A record's 37 words: start, end, start state, resolution, least and greatest TTL, DSCP, ECN, ICMP, captured octets, truncated;
 // then for each direction packets, frame octets, least and greatest length, nine flag counts. An open flow has no end reason, and
 // none is kept.
-use crate::fields::bit_number;
 use crate::fields::bounds_fit;
-use crate::fields::greatest_number8;
-use crate::fields::greatest_number32;
-use crate::fields::least_number8;
-use crate::fields::least_number32;
 use crate::fields::opt_u8_at;
 use crate::fields::opt_u16_at;
 use crate::fields::range8_at;
 use crate::fields::range32_at;
-use crate::fields::resolution_at;
-use crate::fields::resolution_number;
-use crate::fields::state_at;
-use crate::fields::state_number;
 use flow::record::FlowRecord;
 use flow::time::FlowTime;
 use flow::time::Nanos;
@@ -26,6 +17,15 @@ use stats::counts::DirectionStats;
 use stats::counts::NetworkStats;
 use stats::counts::TcpFlagCounts;
 use stats::counts::TransportStats;
+use wire::record::bit_number;
+use wire::record::greatest_number8;
+use wire::record::greatest_number32;
+use wire::record::least_number8;
+use wire::record::least_number32;
+use wire::record::resolution_from;
+use wire::record::resolution_number;
+use wire::record::state_from;
+use wire::record::state_number;
 ghost use mathlib.Core.Path.{_≡_};
 ghost use mathlib.Core.Bool.{true};
 ghost use Prim.Native.Nat.{_+_, _≤_, _^_};
@@ -56,8 +56,8 @@ fn time_at(ws: &[u64]) -> FlowTime
     FlowTime {
         start: Nanos(ws[0]),
         end: Nanos(ws[1]),
-        resolution: resolution_at(ws[3]),
-        start_state: state_at(ws[2]),
+        resolution: resolution_from(ws[3]),
+        start_state: state_from(ws[2]),
         end_reason: OptEndReason::Absent,
     }
 }

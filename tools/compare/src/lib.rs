@@ -8,6 +8,8 @@
 //! `engine` says what an engine is called with and what it answers. `model` is a plain reading of
 //! document 01 and `rust_engine` the Rust behind document 01's byte forms; `scripts` drives engines
 //! side by side.
+//!
+//! `replay` says what the program of that name prints, by the model, and `samples` makes inputs for it.
 
 pub mod answers;
 pub mod engine;
@@ -16,7 +18,9 @@ pub mod model;
 pub mod net;
 pub mod random;
 pub mod records;
+pub mod replay;
 pub mod rust_engine;
+pub mod samples;
 pub mod scripts;
 pub mod shims;
 

@@ -23,13 +23,13 @@ settle-clocked-requires c κs = search (perform-settles, needs)
 is-found-requires : tie.Need-is-found-requires
 is-found-requires c κs = search needs
 
-ended-count-requires : tie.Need-ended-count-requires
-ended-count-requires c κs = search needs
+freed-by-requires : tie.Need-freed-by-requires
+freed-by-requires c κs = search needs
 
 add-t38 : tie.Need-add-t38
 add-t38 c =
     let start = c .before .before .before .before .before .before .before .before .before .before .before .before .before .before .before .before .before .before .before .before .before .before .before .before .before .before .before .before .before .before .before .before .before .before .before in
-    omega (arith, few-freed (start .args .decision .ended), c .ended-count .ensures, start .pre .carry .stands .few, start .pre .carry .stands .most)
+    omega (arith, few-freed (start .args .decision .ended), c .freed-by .ensures, start .pre .carry .stands .few, start .pre .carry .stands .most)
 
 ending-count-requires : tie.Need-ending-count-requires
 ending-count-requires c κs = search needs
@@ -43,7 +43,7 @@ add-t40 c =
       few-freed (d .ended),
       few-ending (d .reason),
       c .ending-count .ensures,
-      c .before .ended-count .ensures,
+      c .before .freed-by .ensures,
       start .pre .carry .stands .few,
       start .pre .carry .stands .most,
     )
@@ -76,7 +76,7 @@ returns c =
     let settled = c .before .before .before .before .before .before .before .before .before .before .before in
     let left = settled .before .before .before .before .before .before .before .before .before .before .before .before .before in
     performed _ _ _ _ _ _ _ _ _ _ _ _ (left .before .before .before .before .before .before .before .before .before .before .before .before .pre) _ _ _ _ _ (left .hand-leaving .ensures) _ _ _ _ _ (settled .settle-clocked .ensures .0)
-    (settled .settle-clocked .ensures .1) _ _ _ (c .before .before .is-found .ensures) (c .before .ended-count .ensures) (c .ending-count .ensures)
+    (settled .settle-clocked .ensures .1) _ _ _ (c .before .before .is-found .ensures) (c .before .freed-by .ensures) (c .ending-count .ensures)
 
 pub perform-spec : {M : Type 1} → statement M
 perform-spec =
@@ -88,7 +88,7 @@ perform-spec =
     part-settle-clocked-end
     settle-clocked-requires
     is-found-requires
-    ended-count-requires
+    freed-by-requires
     add-t38
     ending-count-requires
     add-t40

@@ -9,17 +9,17 @@ shared-slice-read-t3 c = search needs
 shared-slice-read-t6 : tie.Need-shared-slice-read-t6
 shared-slice-read-t6 c = search needs
 
-shared-slice-read-resolution-at : tie.Need-shared-slice-read-resolution-at
-shared-slice-read-resolution-at c = search needs
+shared-slice-read-resolution-from : tie.Need-shared-slice-read-resolution-from
+shared-slice-read-resolution-from c = search needs
 
-resolution-at-requires : tie.Need-resolution-at-requires
-resolution-at-requires c κs = search needs
+resolution-from-requires : tie.Need-resolution-from-requires
+resolution-from-requires c κs = search needs
 
-shared-slice-read-state-at : tie.Need-shared-slice-read-state-at
-shared-slice-read-state-at c = search needs
+shared-slice-read-state-from : tie.Need-shared-slice-read-state-from
+shared-slice-read-state-from c = search needs
 
-state-at-requires : tie.Need-state-at-requires
-state-at-requires c κs = search needs
+state-from-requires : tie.Need-state-from-requires
+state-from-requires c κs = search needs
 
 returns : tie.Need-returns
 returns c = cc
@@ -30,8 +30,8 @@ time-at-spec =
     (tie.spec
     shared-slice-read-t3
     shared-slice-read-t6
-    shared-slice-read-resolution-at
-    resolution-at-requires
-    shared-slice-read-state-at
-    state-at-requires
+    shared-slice-read-resolution-from
+    resolution-from-requires
+    shared-slice-read-state-from
+    state-from-requires
     returns)
