@@ -50,7 +50,7 @@ feedBytes s room batch e = feedAll engine s room (parsed batch .packets) (parsed
 -- ## Laws
 
 -- a packet's form takes some bytes, so that less is left
-shorter : (bs : List ℕ) (p : Packet) (rest : List ℕ) → packet .read bs ≡ got p rest → length bs ≡ length (packet .write p) + length rest
+pub shorter : (bs : List ℕ) (p : Packet) (rest : List ℕ) → packet .read bs ≡ got p rest → length bs ≡ length (packet .write p) + length rest
 shorter bs p rest e = ap length (packet .back bs p rest e .1) ∙ length-append (packet .write p) rest
 
 -- how many are allowed does not matter once it is as many as bytes
@@ -78,20 +78,21 @@ unfolding parsed parsedIn
 parsed-end [] e = refl
 parsed-end (b ∷ bs) e = absurd (omega arith)
 
+-- what a batch begins with
+pub begins : (l : List ℕ) → 0 < length l → parsed l ≡ parsedBy (packet .read l) parsed
+unfolding parsed parsedIn
+begins [] h = absurd (omega arith)
+begins (b ∷ bs) h = go (packet .read (b ∷ bs)) refl
+  where
+    go : (r : Read Packet (List ℕ)) → packet .read (b ∷ bs) ≡ r → parsedBy r (parsedIn (length bs)) ≡ parsedBy r parsed
+    go (got p rest) e =
+        let less = shorter (b ∷ bs) p rest e in
+        ap (λ (x : Parsed). record { packets = p ∷ x .packets; ends = x .ends }) (enough (length bs) (length rest) rest (omega (arith, packet-at-least p)) (omega arith))
+    go short e = refl
+    go refused e = refl
+
 -- what reading at a place finds of the batch from there on
 module _ (batch : List ℕ) (at : ℕ) (some : at < length batch) where
-  begins : (l : List ℕ) → 0 < length l → parsed l ≡ parsedBy (packet .read l) parsed
-  unfolding parsed parsedIn
-  begins [] h = absurd (omega arith)
-  begins (b ∷ bs) h = go (packet .read (b ∷ bs)) refl
-    where
-      go : (r : Read Packet (List ℕ)) → packet .read (b ∷ bs) ≡ r → parsedBy r (parsedIn (length bs)) ≡ parsedBy r parsed
-      go (got p rest) e =
-          let less = shorter (b ∷ bs) p rest e in
-          ap (λ (x : Parsed). record { packets = p ∷ x .packets; ends = x .ends }) (enough (length bs) (length rest) rest (omega (arith, packet-at-least p)) (omega arith))
-      go short e = refl
-      go refused e = refl
-
   left : 0 < length (drop at batch)
   left = omega (arith, length-drop at batch)
 

@@ -2,7 +2,7 @@
 use Prim.Native.Nat.{ℕ, _+_, _-_, _≤_, _<_}
 use mathlib.Core.Path.{_≡_, refl, sym, ap, _∙_}
 use mathlib.Core.Bool.{Bool, true, false, cond}
-use mathlib.Core.List.{List, [], _∷_, _++_}
+use mathlib.Core.List.{List, _++_}
 use native.Mathlib.Omega.{arith}
 use borrow.Author.Tests.{le-leb, lt-leb, leb-true, leb-false, eq-eqb, ne-eqb, eqb-true, eqb-false}
 use lib.Dec.{leb, eqb}
@@ -19,7 +19,8 @@ use Rattle.flow.specs.declared.time.OptEndReason.the-variants.{Absent, Present}
 use Rattle.flow.specs.declared.record.FlowRecord.{FlowRecord}
 use Rattle.wire.specs.declared.record.Flow as Wire
 use Rattle.wire.specs.RecordForm.{recordBytes}
-use Rattle.rules.specs.Rules.{Finished, endedFor, finishOr, sizes}
+use Rattle.rules.specs.Batch.{sizes-both}
+use Rattle.rules.specs.Rules.{endedFor, finishOr, sizes}
 use Rattle.rules.specs.Engine.{engine, bothFins, finishedFlow}
 use Rattle.state.specs.Slot.{flowIn}
 use Rattle.hand.specs.Slot.{flowAs}
@@ -30,14 +31,10 @@ use Rattle.hand.specs.Acting.{reasonOf}
 
 -- ## Sums
 
-pub sizes-both : (a b : List (Finished engine)) → sizes engine (a ++ b) ≡ sizes engine a + sizes engine b
-sizes-both [] b = omega arith
-sizes-both (f ∷ a) b = omega (arith, sizes-both a b)
-
 pub finished-sizes : (s : List ℕ) (c : ℕ) (listed : List ℕ) (d : Decision)
     → sizes engine (finishedBy s c listed d) ≡ sizes engine (sweptBy s c listed) + (sizes engine (endedBy s (d .ended)) + sizes engine (takenBy d))
 finished-sizes s c listed d =
-    omega (arith, sizes-both (sweptBy s c listed) (endedBy s (d .ended) ++ takenBy d), sizes-both (endedBy s (d .ended)) (takenBy d))
+    omega (arith, sizes-both engine (sweptBy s c listed) (endedBy s (d .ended) ++ takenBy d), sizes-both engine (endedBy s (d .ended)) (takenBy d))
 
 -- ## The record that step 1 finishes
 

@@ -3,7 +3,7 @@
 use mathlib.Core.Path.{subst}
 use mathlib.Core.Bool.{Bool, true, false, _&&_}
 use mathlib.Core.List.{List, [], _∷_}
-use Prim.Native.Nat.{ℕ, _+_, _-_, _^_}
+use Prim.Native.Nat.{ℕ, zero, suc, _+_, _-_, _^_}
 use lib.Dec.{T, eqb}
 use lib.ListN.{length}
 use Rattle.forms.specs.Number.{numberBytes, groups}
@@ -71,7 +71,7 @@ pub data Row : Type 0 where
 
 -- ## The test
 
-abbrev expected : List Out → List ℕ
+abbrev pub expected : List Out → List ℕ
 expected [] = []
 expected (o ∷ os) =
     RecordForm.stateNumber (o .state) ∷ RecordForm.reasonNumber (o .reason) ∷ o .start ∷ o .end ∷ o .packets .0 ∷ o .packets .1 ∷ o .octets .0
@@ -82,35 +82,35 @@ module _ (bytes : FlowKey → List ℕ) (size : FlowKey → EndReason → FlowRe
   abbrev E : Terms
   E = engineBy bytes size
 
-  abbrev given : List (Finished E) → List ℕ
+  abbrev pub given : List (Finished E) → List ℕ
   given [] = []
   given (f ∷ fs) =
       RecordForm.stateNumber (f .held .time .«start_state») ∷ RecordForm.reasonNumber (f .reason) ∷ f .held .time .start .0 ∷ f .held .time .end .0
       ∷ f .held .forward .packets ∷ f .held .reverse .packets ∷ f .held .forward .«frame_octets» ∷ f .held .reverse .«frame_octets» ∷ given fs
 
-  abbrev packetsOf : List (Flow E) → List ℕ
+  abbrev pub packetsOf : List (Flow E) → List ℕ
   packetsOf [] = []
   packetsOf (f ∷ fs) = (f .held .forward .packets + f .held .reverse .packets) ∷ packetsOf fs
 
-  abbrev answer : Settings → Call → Engine E → Told E
+  abbrev pub answer : Settings → Call → Engine E → Told E
   answer s (feed room ps ends) e = feedAll E s room ps ends e
   answer s (sweep room t) e = sweepAt E s room t e
   answer s (drain room) e = drainAll E room e
 
-  abbrev agrees : Step → Told E → Bool
+  abbrev pub agrees : Step → Told E → Bool
   agrees x t =
       eqb (numberOf (x .refusal)) (numberOf (t .refusal)) && eqb (x .taken) (t .taken) && eqb (x .opened) (t .opens)
       && equal (expected (x .outs)) (given (t .finished)) && equal (x .left) (packetsOf (t .engine .flows)) && eqb (x .clock) (t .engine .clock)
 
-  abbrev playsOut : Settings → List Step → Engine E → Bool
+  abbrev pub playsOut : Settings → List Step → Engine E → Bool
   playsOut s [] e = true
   playsOut s (x ∷ xs) e = agrees x (answer s (x .call) e) && playsOut s xs (answer s (x .call) e .engine)
 
-  abbrev flowsOf : List (FlowKey × FlowRecord) → List (Flow E)
+  abbrev pub flowsOf : List (FlowKey × FlowRecord) → List (Flow E)
   flowsOf [] = []
   flowsOf ((k, r) ∷ l) = record { name = k; held = r } ∷ flowsOf l
 
-  abbrev openedWith : ℕ → ℕ → Settings
+  abbrev pub openedWith : ℕ → ℕ → Settings
   openedWith ms capacity = settings (record { 0 = ms }) TimeResolution.Microseconds capacity
 
   abbrev passesBy : Row → Bool
@@ -210,6 +210,11 @@ unfit c left w = record { call = c; refusal = Room; taken = 0; opened = 0; outs 
 abbrev drained : List Out → ℕ → Step
 drained outs w = record { call = drain ample; refusal = Accepted; taken = 0; opened = 0; outs = outs; left = []; clock = w }
 
+-- "a length range exactly if it has packets"
+abbrev lengthsOf : ℕ → OptRange32
+lengthsOf zero = OptRange32.Absent
+lengthsOf (suc packets) = OptRange32.Present (record { min = 0; max = 60 })
+
 -- a record of a flow that began at 0 with SYN not seen: forward packets, octets and FINs, reverse FINs in as many packets, captured octets
 abbrev held : ℕ → ℕ → ℕ → ℕ → ℕ → FlowRecord
 held packets octets fins back captured = record {
@@ -217,13 +222,13 @@ held packets octets fins back captured = record {
   forward = record {
     packets = packets;
     «frame_octets» = octets;
-    «packet_length» = OptRange32.Absent;
+    «packet_length» = lengthsOf packets;
     «tcp_flags» = record { fin = fins; syn = 0; rst = 0; psh = 0; ack = 0; urg = 0; ece = 0; cwr = 0; ns = 0 };
   };
   reverse = record {
     packets = back;
     «frame_octets» = 0;
-    «packet_length» = OptRange32.Absent;
+    «packet_length» = lengthsOf back;
     «tcp_flags» = record { fin = back; syn = 0; rst = 0; psh = 0; ack = 0; urg = 0; ece = 0; cwr = 0; ns = 0 };
   };
   network = record { ttl = OptRange8.Absent; dscp = OptU8.Absent; ecn = OptU8.Absent };
@@ -233,7 +238,7 @@ held packets octets fins back captured = record {
 
 -- ## Document 01's examples
 
-pub examples : List Row
+unfoldable pub examples : List Row
 examples =
     -- P1 timeout 0, sweep at 2^64 − 1: none leaves.
     plays 0 8 (fed (ack 0 1 2 ∷ []) 1 [] (1 ∷ []) 0 ∷ swept (2 ^ 64 - 1) [] (1 ∷ []) 0 ∷ [])
@@ -281,7 +286,7 @@ examples =
 
 -- ## Rows of ours
 
-pub further : List Row
+unfoldable pub further : List Row
 further =
     -- the document's `replay`: Fin 0 400 3 2 168 114
     plays 1000 32
@@ -387,7 +392,7 @@ examples-hold = as-spelled examples examples-computed
 pub further-hold : T (allPass further)
 further-hold = as-spelled further further-computed
 
-both-hold : (a b : Bool) → T (a && b) → T a × T b
+pub both-hold : (a b : Bool) → T (a && b) → T a × T b
 both-hold true b t = (tt, t)
 both-hold false b t = absurd t
 
