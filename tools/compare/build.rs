@@ -1,7 +1,8 @@
-//! Brings the Rust sources into the build, unchanged.
+//! Brings the Rust sources into the build, unchanged, and links our static library.
 //!
-//! They are not part of this repository: they are copied from the folder that
-//! `BRAIDPUDDLE_RUST_SRC` names into cargo's own build folder, and compiled from there.
+//! The sources are not part of this repository: they are copied from the folder that
+//! `BRAIDPUDDLE_RUST_SRC` names into cargo's own build folder, and compiled from there. The library is
+//! taken from the folder that `BRAIDPUDDLE_LIB` names; without it, the cfg `braidpuddle` is not set.
 
 use std::env;
 use std::fs;
@@ -19,6 +20,13 @@ const FLOW_FOLDER: &str = "fluereflow/src/flow";
 const ENGINE_FOLDER: &str = "src/net";
 const ENGINE_FILE: &str = "flow_engine.rs";
 
+const LIBRARY_VARIABLE: &str = "BRAIDPUDDLE_LIB";
+
+/// Where the library lies if the variable does not say, as seen from this package.
+const DEFAULT_LIBRARY: &str = "../../build/lib";
+
+const LIBRARY_FILE: &str = "libbraidpuddle.a";
+
 /// The whole folder: its root, and the modules that the root declares.
 const FLOW_FILES: [&str; 8] = [
     "mod.rs",
@@ -32,8 +40,13 @@ const FLOW_FILES: [&str; 8] = [
 ];
 
 fn main() {
+    copy_sources();
+    link_library();
+}
+
+fn copy_sources() {
     println!("cargo:rerun-if-env-changed={SOURCE_VARIABLE}");
-    let source = source_folder();
+    let source = folder(SOURCE_VARIABLE, DEFAULT_SOURCE);
     let copies = build_folder().join("flow");
     fs::create_dir_all(&copies).expect("cargo's build folder can be written");
     for file in FLOW_FILES {
@@ -44,10 +57,24 @@ fn main() {
         .expect("cargo's build folder can be written");
 }
 
-fn source_folder() -> PathBuf {
-    match env::var_os(SOURCE_VARIABLE) {
+fn link_library() {
+    println!("cargo:rerun-if-env-changed={LIBRARY_VARIABLE}");
+    println!("cargo:rustc-check-cfg=cfg(braidpuddle)");
+    let folder = folder(LIBRARY_VARIABLE, DEFAULT_LIBRARY);
+    let file = folder.join(LIBRARY_FILE);
+    println!("cargo:rerun-if-changed={}", file.display());
+    if file.is_file() {
+        println!("cargo:rustc-cfg=braidpuddle");
+        println!("cargo:rustc-link-search=native={}", folder.display());
+        println!("cargo:rustc-link-lib=static=braidpuddle");
+    }
+}
+
+/// The folder that the variable names, or else the usual one.
+fn folder(variable: &str, usual: &str) -> PathBuf {
+    match env::var_os(variable) {
         Some(folder) => PathBuf::from(folder),
-        None => package_folder().join(DEFAULT_SOURCE),
+        None => package_folder().join(usual),
     }
 }
 

@@ -93,7 +93,7 @@ pub struct RecordFields {
 
 // ---- numbers that stand for cases
 
-fn reason_from(number: u64) -> EndReason
+pub fn reason_from(number: u64) -> EndReason
     ensures { λ r. ⌜ r ≡ reasonFrom number ⌝ }
 {
     match number {
@@ -132,7 +132,7 @@ fn bit_from(number: u64) -> bool
     }
 }
 
-fn reason_number(reason: OptEndReason) -> u64
+pub fn reason_number(reason: OptEndReason) -> u64
     ensures { λ r. ⌜ r ≡ reasonNumber (reasonOf reason) ⌝ }
 {
     match reason {

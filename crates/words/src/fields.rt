@@ -10,7 +10,7 @@ ghost use mathlib.Core.Path.{_≡_};
 ghost use Prim.Native.Nat.{_^_, _≤_};
 ghost use Rattle.words.specs.Fields.{opt8At, opt16At, range8At, range32At, boundsFit, BoundsFit};
 
-pub(crate) fn opt_u8_at(word: u64) -> OptU8
+pub fn opt_u8_at(word: u64) -> OptU8
     requires { ⌜ word ≤ 2 ^ 8 ⌝ }
     ensures { λ r. ⌜ r ≡ opt8At word ⌝ }
 {
@@ -20,7 +20,7 @@ pub(crate) fn opt_u8_at(word: u64) -> OptU8
     OptU8::Present((word - 1) as u8)
 }
 
-pub(crate) fn opt_u16_at(word: u64) -> OptU16
+pub fn opt_u16_at(word: u64) -> OptU16
     requires { ⌜ word ≤ 2 ^ 16 ⌝ }
     ensures { λ r. ⌜ r ≡ opt16At word ⌝ }
 {

@@ -35,6 +35,7 @@ pub use engine::Model;
 pub use feed::feed;
 pub use host::{begin, observe};
 pub use key::{Address, Encapsulation, Endpoints, Key};
+pub use key_form::{form as write_key, whole as read_key};
 pub use packet::Packet;
 pub use packet_form::{read_packet, write_packet};
 pub use record::{Direction, Record, Way};

@@ -11,6 +11,8 @@ use crate::engine::{Answer, Engine, Opening};
 use crate::flow::{Flow, TimeResolution};
 use crate::net::flow_engine::FlowEngine;
 
+pub use read::key as read_key;
+
 /// The refusal "Packet", for bytes that are no packet of the Rust's.
 const PACKET: u64 = 4;
 

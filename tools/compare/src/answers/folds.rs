@@ -53,7 +53,7 @@ impl Fold {
 }
 
 /// As `open_record` of the Rust's flow_engine.rs, which keeps it to itself.
-fn open_record(first: &Packet, resolution: TimeResolution) -> FlowRecord {
+pub fn open_record(first: &Packet, resolution: TimeResolution) -> FlowRecord {
     let start_state = if first.key.protocol == TCP {
         match first.facts.tcp_flags {
             Some(flags) if flags.syn => StartState::SynObserved,
@@ -164,7 +164,7 @@ fn facing(packet: Packet, direction: Direction) -> Packet {
     }
 }
 
-fn any_fold(random: &mut Random) -> Fold {
+pub fn any_fold(random: &mut Random) -> Fold {
     let key = FlowKey {
         protocol: any_protocol(random),
         ..any_shape(random)

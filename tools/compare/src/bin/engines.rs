@@ -1,5 +1,5 @@
-//! Drives the Rust's engine and the model side by side over random scripts, and compares every
-//! record and every count.
+//! Drives the model, the Rust's engine and our library side by side over random scripts, and compares
+//! every record and every count. Where there is no library, it says so and goes on without it.
 //!
 //!     engines [--scripts N] [--seed S]
 //!
@@ -7,10 +7,11 @@
 //! at the first difference, after a script that shows it, with every step deleted that can be.
 
 use std::process::ExitCode;
-use std::time::{SystemTime, UNIX_EPOCH};
 
 use compare::engine::Engine;
 use compare::model::Model;
+use compare::options::{self, seed_from_the_clock};
+use compare::ours::{self, Ours};
 use compare::rust_engine::RustEngine;
 use compare::scripts::run::{Difference, run};
 use compare::scripts::tally::Tally;
@@ -24,14 +25,18 @@ struct Options {
 }
 
 fn main() -> ExitCode {
-    let options = match options(std::env::args().skip(1)) {
+    let options = match options() {
         Ok(options) => options,
         Err(complaint) => {
             eprintln!("{complaint}\nusage: engines [--scripts N] [--seed S]");
             return ExitCode::from(2);
         }
     };
-    println!("seed {}", options.seed);
+    let names: Vec<&str> = engines().iter().map(|engine| engine.name()).collect();
+    println!("seed {}; {}", options.seed, names.join(", "));
+    if !ours::AT_HAND {
+        ours::missing();
+    }
     match compare_all(&options) {
         Ok(tally) => {
             println!("no difference: {tally}");
@@ -44,33 +49,29 @@ fn main() -> ExitCode {
     }
 }
 
-fn options(mut arguments: impl Iterator<Item = String>) -> Result<Options, String> {
+fn options() -> Result<Options, String> {
     let mut options = Options {
         scripts: SCRIPTS,
         seed: seed_from_the_clock(),
     };
-    while let Some(name) = arguments.next() {
-        let value = arguments
-            .next()
-            .and_then(|value| value.parse().ok())
-            .ok_or(format!("{name} takes a number"))?;
-        match name.as_str() {
-            "--scripts" => options.scripts = value,
-            "--seed" => options.seed = value,
-            _ => return Err(format!("{name} is not known")),
-        }
-    }
+    options::read(
+        std::env::args().skip(1),
+        &mut [
+            ("--scripts", &mut options.scripts),
+            ("--seed", &mut options.seed),
+        ],
+    )?;
     Ok(options)
-}
-
-fn seed_from_the_clock() -> u64 {
-    let since = SystemTime::now().duration_since(UNIX_EPOCH);
-    since.map_or(1, |since| since.as_nanos() as u64)
 }
 
 /// The first is the one that the others are compared with.
 fn engines() -> Vec<Box<dyn Engine>> {
-    vec![Box::new(Model::default()), Box::new(RustEngine::default())]
+    let mut engines: Vec<Box<dyn Engine>> =
+        vec![Box::new(Model::default()), Box::new(RustEngine::default())];
+    if ours::AT_HAND {
+        engines.push(Box::new(Ours::default()));
+    }
+    engines
 }
 
 /// What was compared, or the seed of the first script that shows a difference.

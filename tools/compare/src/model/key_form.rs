@@ -76,6 +76,13 @@ pub fn read(reader: &mut Reader) -> Result<Key, Fault> {
     })
 }
 
+/// The key that all of the bytes spell, if they are exactly one key form.
+pub fn whole(bytes: &[u8]) -> Option<Key> {
+    let mut reader = Reader::new(bytes);
+    let key = read(&mut reader).ok()?;
+    (reader.place() == bytes.len()).then_some(key)
+}
+
 fn read_endpoints(reader: &mut Reader) -> Result<Endpoints, Fault> {
     Ok(match reader.one_of(&[0, 1, 2, 3])? {
         0 => Endpoints::None,

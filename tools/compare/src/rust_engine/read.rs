@@ -57,7 +57,7 @@ pub fn observation(bytes: &[u8]) -> Option<(PacketObservation, &[u8])> {
     let facts = facts(&mut bytes)?;
     let dscp = bytes.optional()?;
     let ecn = bytes.optional()?;
-    let key = key(&mut bytes)?;
+    let key = key_in(&mut bytes)?;
     let observation = PacketObservation {
         key,
         facts,
@@ -102,7 +102,14 @@ fn flags(mask: u16) -> TcpFlags {
     }
 }
 
-fn key(bytes: &mut Bytes) -> Option<FlowKey> {
+/// The key whose form all of the bytes are, if its tunnel is of a kind that the Rust has.
+pub fn key(bytes: &[u8]) -> Option<FlowKey> {
+    let mut bytes = Bytes(bytes);
+    let key = key_in(&mut bytes)?;
+    bytes.0.is_empty().then_some(key)
+}
+
+fn key_in(bytes: &mut Bytes) -> Option<FlowKey> {
     let protocol = bytes.narrow()?;
     let ethertype = bytes.optional()?;
     let endpoints = endpoints(bytes)?;

@@ -10,8 +10,10 @@ use super::keys::conversations;
 use super::times::{Times, any_timeout};
 use super::{Script, Step};
 
-/// More than any script opens, so that nothing is ever refused.
-const CAPACITY: u64 = 4096;
+/// The greatest capacity, which one script in so many has. The others have as much as they can need,
+/// so that nothing is ever refused.
+const MOST_CAPACITY: u64 = 4096;
+const FEW_HAVE_MOST: u64 = 64;
 
 const FIN: u16 = 1 << 0;
 const SYN: u16 = 1 << 1;
@@ -58,8 +60,8 @@ const MASKS: [&[u16]; 4] = [
 ];
 
 /// What the steps of one script have in common.
-struct Habits {
-    keys: Vec<FlowKey>,
+pub struct Habits {
+    pub keys: Vec<FlowKey>,
     masks: &'static [u16],
     /// One packet in so many has any flags at all, or none.
     odd: usize,
@@ -78,15 +80,22 @@ pub fn script(seed: u64) -> Script {
     // Many keys have several packets each as well.
     let most = random.one_of(&[8, 40, 80, 160]);
     let count = 1 + random.below(most) + 3 * habits.keys.len();
+    let steps = (0..count)
+        .map(|_| any_step(&mut random, &habits, &mut times))
+        .collect();
+    let capacity = if seed.is_multiple_of(FEW_HAVE_MOST) {
+        MOST_CAPACITY
+    } else {
+        count as u64
+    };
     Script {
-        opening: Opening::with_enough_memory(CAPACITY, timeout, resolution),
-        steps: (0..count)
-            .map(|_| any_step(&mut random, &habits, &mut times))
-            .collect(),
+        opening: Opening::with_enough_memory(capacity, timeout, resolution),
+        batch: random.one_of(&[1, 1, 1, 2, 7, 1000]),
+        steps,
     }
 }
 
-fn any_habits(random: &mut Random) -> Habits {
+pub fn any_habits(random: &mut Random) -> Habits {
     Habits {
         keys: conversations(random),
         masks: random.one_of(&MASKS),
@@ -107,7 +116,7 @@ fn any_step(random: &mut Random, habits: &Habits, times: &mut Times) -> Step {
     }
 }
 
-fn packet(random: &mut Random, habits: &Habits, time: u64) -> Packet {
+pub fn packet(random: &mut Random, habits: &Habits, time: u64) -> Packet {
     let key = random.one_of(&habits.keys);
     let turned = random.below(habits.turns) == 0;
     let way = if turned { key.reversed() } else { key };

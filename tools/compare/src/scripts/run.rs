@@ -27,8 +27,8 @@ pub struct Seen {
 
 /// Two engines that do not agree.
 pub struct Difference {
-    /// The number of the step, which is that of steps for the last drain, and nothing for the opening.
-    pub step: Option<usize>,
+    /// The number of the call, which is that of calls for the last drain, and nothing for the opening.
+    pub call: Option<usize>,
     pub seen: [Seen; 2],
 }
 
@@ -45,13 +45,14 @@ pub fn run(script: &Script, engines: &mut [Box<dyn Engine>]) -> Result<Tally, Bo
     compare(None, &opened, engines)?;
 
     let mut output = vec![UNTOUCHED; LONGEST_RECORD * (script.packets() + 1)];
-    for (place, step) in script.steps.iter().chain([&Step::Drain]).enumerate() {
+    let calls = script.calls().into_iter().chain([&[Step::Drain][..]]);
+    for (place, steps) in calls.enumerate() {
         let mut all = Vec::new();
         for engine in engines.iter_mut() {
-            all.push(call(step, engine.as_mut(), &mut output));
+            all.push(call(steps, engine.as_mut(), &mut output));
         }
         compare(Some(place), &all, engines)?;
-        tally.step(step, &all[0].answer);
+        tally.call(steps, &all[0].answer);
         for (record, _) in all[0].records.iter().flat_map(|form| read_record(form)) {
             tally.record(&record);
         }
@@ -70,12 +71,12 @@ fn opened(script: &Script, engine: &mut dyn Engine) -> Seen {
 }
 
 /// Calls one engine. The output is untouched before and after.
-fn call(step: &Step, engine: &mut dyn Engine, output: &mut [u8]) -> Seen {
+fn call(steps: &[Step], engine: &mut dyn Engine, output: &mut [u8]) -> Seen {
     let name = engine.name();
-    let called = catch_unwind(AssertUnwindSafe(|| match step {
-        Step::Packet(packet) => engine.feed(&records::packet(packet), output),
-        Step::Sweep(time) => engine.sweep(*time, output),
-        Step::Drain => engine.drain(output),
+    let called = catch_unwind(AssertUnwindSafe(|| match steps {
+        [Step::Sweep(time)] => engine.sweep(*time, output),
+        [Step::Drain] => engine.drain(output),
+        packets => engine.feed(&batch(packets), output),
     }));
     let Ok(answer) = called else {
         return Seen {
@@ -96,6 +97,14 @@ fn call(step: &Step, engine: &mut dyn Engine, output: &mut [u8]) -> Seen {
         records,
         fault,
     }
+}
+
+fn batch(steps: &[Step]) -> Vec<u8> {
+    let form = |step: &Step| match step {
+        Step::Packet(packet) => records::packet(packet),
+        _ => panic!("only packets are fed"),
+    };
+    steps.iter().flat_map(form).collect()
 }
 
 /// What is wrong with an output: records, what is left behind the last, and what is beyond it.
@@ -132,7 +141,7 @@ fn split(mut bytes: &[u8]) -> (Vec<Vec<u8>>, &[u8]) {
 }
 
 fn compare(
-    step: Option<usize>,
+    call: Option<usize>,
     all: &[Seen],
     engines: &[Box<dyn Engine>],
 ) -> Result<(), Box<Difference>> {
@@ -141,7 +150,7 @@ fn compare(
         let ordered = engines[0].keeps_order() && engine.keeps_order();
         if !agree(first, other, ordered) {
             let seen = [first.clone(), other.clone()];
-            return Err(Box::new(Difference { step, seen }));
+            return Err(Box::new(Difference { call, seen }));
         }
     }
     Ok(())
@@ -168,6 +177,7 @@ mod tests {
     use super::*;
     use crate::engine::Opening;
     use crate::model::{Model, read_packet, write_packet};
+    use crate::ours::{self, Ours};
     use crate::rust_engine::RustEngine;
     use crate::scripts::make;
     use crate::scripts::shrink::shrink;
@@ -192,14 +202,20 @@ mod tests {
         }
 
         fn feed(&mut self, batch: &[u8], output: &mut [u8]) -> Answer {
-            let (mut packet, _) = read_packet(batch).expect("scripts hold packets");
-            packet.tcp_flags = packet.tcp_flags.map(|mask| match mask & SYN_AND_RST {
-                SYN_AND_RST => mask & !4,
-                _ => mask,
-            });
-            let mut form = [0; 103];
-            let length = write_packet(&packet, &mut form).expect("it is in range");
-            let answer = self.0.feed(&form[..length], output);
+            let mut seen = Vec::new();
+            let mut rest = batch;
+            while !rest.is_empty() {
+                let (mut packet, length) = read_packet(rest).expect("scripts hold packets");
+                packet.tcp_flags = packet.tcp_flags.map(|mask| match mask & SYN_AND_RST {
+                    SYN_AND_RST => mask & !4,
+                    _ => mask,
+                });
+                let mut form = [0; 103];
+                let length_seen = write_packet(&packet, &mut form).expect("it is in range");
+                seen.extend(&form[..length_seen]);
+                rest = &rest[length..];
+            }
+            let answer = self.0.feed(&seen, output);
             Answer {
                 batch_bytes_used: batch.len() as u64,
                 ..answer
@@ -234,9 +250,12 @@ mod tests {
     }
 
     #[test]
-    fn the_rust_and_the_model_agree() {
+    fn the_rust_the_library_and_the_model_agree() {
         let mut engines: Vec<Box<dyn Engine>> =
             vec![Box::new(Model::default()), Box::new(RustEngine::default())];
+        if ours::AT_HAND {
+            engines.push(Box::new(Ours::default()));
+        }
         let mut tally = Tally::default();
         for seed in 0..300 {
             match run(&make::script(seed), &mut engines) {

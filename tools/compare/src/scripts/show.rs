@@ -12,12 +12,16 @@ pub fn script(script: &Script) -> String {
         "open: capacity {}, timeout {} ms, resolution {}",
         opening.capacity, opening.timeout, opening.resolution
     )];
-    for (place, step) in script.steps.iter().enumerate() {
-        lines.push(format!("{place}: {}", one_step(step)));
+    let calls = script.calls();
+    for (place, call) in calls.iter().enumerate() {
+        lines.extend(
+            call.iter()
+                .map(|step| format!("{place}: {}", one_step(step))),
+        );
     }
     lines.push(format!(
         "{}: drain, as at the end of every script",
-        script.steps.len()
+        calls.len()
     ));
     lines.join("\n")
 }
@@ -42,7 +46,7 @@ fn one_step(step: &Step) -> String {
     }
 }
 
-fn flag_names(mask: u16) -> String {
+pub fn flag_names(mask: u16) -> String {
     let names = ["fin", "syn", "rst", "psh", "ack", "urg", "ece", "cwr", "ns"];
     let set = names
         .iter()
@@ -53,8 +57,8 @@ fn flag_names(mask: u16) -> String {
 }
 
 pub fn difference(difference: &Difference) -> String {
-    let place = match difference.step {
-        Some(step) => format!("at step {step}"),
+    let place = match difference.call {
+        Some(call) => format!("at call {call}"),
         None => "at the opening".to_string(),
     };
     let [first, other] = &difference.seen;
@@ -79,6 +83,6 @@ fn seen(seen: &Seen) -> String {
     lines.join("\n")
 }
 
-fn hex(bytes: &[u8]) -> String {
+pub fn hex(bytes: &[u8]) -> String {
     bytes.iter().map(|byte| format!("{byte:02x}")).collect()
 }

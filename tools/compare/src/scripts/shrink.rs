@@ -1,11 +1,20 @@
-//! Makes a script that shows a difference shorter.
+//! Makes what shows a difference shorter.
 
-use super::Script;
+use super::{Script, Step};
 
-/// Deletes steps, many at once and then one at a time, as long as what is left still differs.
+/// The script with every step deleted that can be.
 pub fn shrink(script: &Script, mut differs: impl FnMut(&Script) -> bool) -> Script {
-    let mut shortest = script.clone();
-    let mut length = script.steps.len().div_ceil(2).max(1);
+    let with = |steps: &[Step]| Script {
+        steps: steps.to_vec(),
+        ..*script
+    };
+    with(&shortest(&script.steps, |steps| differs(&with(steps))))
+}
+
+/// Deletes items, many at once and then one at a time, as long as what is left still differs.
+pub fn shortest<T: Clone>(items: &[T], mut differs: impl FnMut(&[T]) -> bool) -> Vec<T> {
+    let mut shortest = items.to_vec();
+    let mut length = items.len().div_ceil(2).max(1);
     loop {
         let deleted = delete_pieces(&mut shortest, length, &mut differs);
         if length > 1 {
@@ -17,19 +26,19 @@ pub fn shrink(script: &Script, mut differs: impl FnMut(&Script) -> bool) -> Scri
 }
 
 /// Deletes every piece of this length that is not needed. Answers whether any was deleted.
-fn delete_pieces(
-    script: &mut Script,
+fn delete_pieces<T: Clone>(
+    items: &mut Vec<T>,
     length: usize,
-    differs: &mut impl FnMut(&Script) -> bool,
+    differs: &mut impl FnMut(&[T]) -> bool,
 ) -> bool {
     let mut deleted = false;
     let mut place = 0;
-    while place < script.steps.len() {
-        let mut shorter = script.clone();
-        let end = (place + length).min(shorter.steps.len());
-        shorter.steps.drain(place..end);
+    while place < items.len() {
+        let mut shorter = items.clone();
+        let end = (place + length).min(shorter.len());
+        shorter.drain(place..end);
         if differs(&shorter) {
-            *script = shorter;
+            *items = shorter;
             deleted = true;
         } else {
             place += length;
@@ -42,11 +51,11 @@ fn delete_pieces(
 mod tests {
     use super::*;
     use crate::engine::Opening;
-    use crate::scripts::Step;
 
     fn sweeps(times: impl Iterator<Item = u64>) -> Script {
         Script {
             opening: Opening::with_enough_memory(1, 0, 0),
+            batch: 1,
             steps: times.map(Step::Sweep).collect(),
         }
     }

@@ -23,15 +23,17 @@ pub struct Tally {
 }
 
 impl Tally {
-    pub fn step(&mut self, step: &Step, answer: &Answer) {
-        match step {
-            Step::Packet(_) => self.packets += 1,
-            Step::Sweep(_) => self.sweeps += 1,
-            Step::Drain => self.drains += 1,
+    pub fn call(&mut self, steps: &[Step], answer: &Answer) {
+        for step in steps {
+            match step {
+                Step::Packet(_) => self.packets += 1,
+                Step::Sweep(_) => self.sweeps += 1,
+                Step::Drain => self.drains += 1,
+            }
         }
         self.opened += answer.flows_opened;
         self.records += answer.records_written;
-        if !matches!(step, Step::Drain) && answer.records_written > 1 {
+        if !matches!(steps, [Step::Drain]) && answer.records_written > 1 {
             self.several += 1;
         }
     }
@@ -67,7 +69,7 @@ impl fmt::Display for Tally {
             f,
             "{} scripts, {} packets, {} sweeps, {} drains; {} flows opened, {} records \
              (IdleTimeout {idle}, Fin {fin}, Rst {rst}, CaptureEnd {end}; both ways {}); \
-             {} packets or sweeps with several records",
+             {} batches or sweeps with several records",
             self.scripts,
             self.packets,
             self.sweeps,

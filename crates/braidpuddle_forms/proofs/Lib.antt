@@ -1,0 +1,3 @@
+pub mod KeyAnswers
+pub mod FormAnswers
+pub mod HostAnswers

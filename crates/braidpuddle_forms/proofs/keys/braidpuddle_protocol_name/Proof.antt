@@ -1,0 +1,38 @@
+-- `braidpuddle_forms::keys::braidpuddle_protocol_name` meets its contract. Assumes nothing.
+use Rattle.braidpuddle_forms.proofs.KeyAnswers.{asked-none, asked-key}
+use borrow.Author.Needs.{needs}
+use Rattle.braidpuddle_forms.proofs.keys.braidpuddle_protocol_name.Statement.{statement}
+use Rattle.braidpuddle_forms.proofs.keys.braidpuddle_protocol_name.Tie as tie
+
+whole-key-requires : tie.Need-whole-key-requires
+whole-key-requires c κs = search needs
+
+enum-known-named : tie.Need-enum-known-named
+enum-known-named c = search needs
+
+enum-told : tie.Need-enum-told
+enum-told c = search needs
+
+returns : tie.Need-returns
+returns c = search (asked-none, needs)
+
+protocol-name-requires : tie.Need-protocol-name-requires
+protocol-name-requires c κs = search needs
+
+cast-result : tie.Need-cast-result
+cast-result c = search needs
+
+returns-2 : tie.Need-returns-2
+returns-2 c = search (asked-key, needs)
+
+pub braidpuddle-protocol-name-spec : {M : Type 1} → statement M
+braidpuddle-protocol-name-spec =
+    tie.close
+    (tie.spec
+    whole-key-requires
+    enum-known-named
+    enum-told
+    returns
+    protocol-name-requires
+    cast-result
+    returns-2)

@@ -1,0 +1,298 @@
+//! The engine: its state, and the calls on it.
+
+use crate::face::{self, Answer};
+use crate::record::{Records, RECORD_MOST};
+use crate::refusal::{unless_refused, Refusal};
+use crate::time::{Millis, Nanos, Resolution};
+
+/// The most flows that an engine can hold open.
+pub const CAPACITY_MOST: u64 = 4096;
+
+/// Output that always suffices for one packet of an engine with this capacity, and so for any sweep or drain.
+///
+/// ```
+/// assert_eq!(braidpuddle::room_for_one(32), 33 * 358);
+/// ```
+pub const fn room_for_one(capacity: u64) -> usize {
+    (capacity as usize + 1) * RECORD_MOST
+}
+
+/// Where the state's memory has its capacity.
+const CAPACITY_BYTES: std::ops::Range<usize> = 8..16;
+
+/// What the library answers of a damaged state.
+const DAMAGED: u64 = u64::MAX;
+
+/// A flow meter with room for so many open flows. It owns its state, which is sound at any time: so of the calls on an engine none is
+/// refused with [`Refusal::Damaged`].
+///
+/// ```
+/// use braidpuddle::{Endpoints, Engine, Facts, Key, Millis, Nanos, Packet, Resolution, TcpFlags};
+///
+/// let mut engine = Engine::open(32, Millis(1000), Resolution::Finer)?;
+/// let mut out = vec![0; engine.room_for_one()];
+///
+/// let key = Key::new(
+///     6,
+///     "10.0.0.1".parse().unwrap(),
+///     "10.0.0.2".parse().unwrap(),
+///     Endpoints::Ports { source: 40000, destination: 443 },
+/// );
+/// let facts = |time, flags| Facts {
+///     time: Nanos(time),
+///     frame_octets: 60,
+///     captured_octets: 60,
+///     flags: Some(flags),
+///     ..Facts::default()
+/// };
+/// let mut batch = Vec::new();
+/// Packet { facts: facts(0, TcpFlags::SYN), key }.encode(&mut batch)?;
+/// Packet { facts: facts(70, TcpFlags::RST), key: key.reversed() }.encode(&mut batch)?;
+///
+/// let fed = engine.feed(&batch, &mut out);
+/// assert_eq!((fed.refusal, fed.packets, fed.opened, fed.records), (None, 2, 1, 1));
+/// let record = fed.finished().next().unwrap()?;
+/// assert_eq!(record.to_string(), "Rst 0 70 1 1 60 60");
+/// # Ok::<(), braidpuddle::Refusal>(())
+/// ```
+#[derive(Clone, PartialEq, Eq)]
+pub struct Engine {
+    state: Vec<u8>,
+}
+
+impl Engine {
+    /// Opens an engine: its clock at 0, no flow open.
+    ///
+    /// With timeout 0 nothing is ever swept. Refused with [`Refusal::Capacity`] where the capacity is 0 or above 4096.
+    ///
+    /// ```
+    /// use braidpuddle::{Engine, Millis, Refusal, Resolution};
+    ///
+    /// assert!(Engine::open(4096, Millis(0), Resolution::Microseconds).is_ok());
+    /// assert_eq!(Engine::open(4097, Millis(0), Resolution::Microseconds).err(), Some(Refusal::Capacity));
+    /// ```
+    pub fn open(capacity: u64, timeout: Millis, resolution: Resolution) -> Result<Engine, Refusal> {
+        let memory = vec![0; face::state_bytes(capacity) as usize];
+        Engine::open_in(memory, capacity, timeout, resolution)
+    }
+
+    /// Opens an engine in memory that is already there: what it holds is forgotten, and bytes beyond those of the state are left alone.
+    ///
+    /// Refused with [`Refusal::Capacity`], then with [`Refusal::Memory`] where there are less than [`Engine::state_bytes`].
+    ///
+    /// ```
+    /// use braidpuddle::{Engine, Millis, Refusal, Resolution};
+    ///
+    /// let engine = Engine::open_in(vec![0; 895], 1, Millis(0), Resolution::Finer);
+    /// assert_eq!(engine.err(), Some(Refusal::Memory));
+    /// ```
+    pub fn open_in(
+        mut memory: Vec<u8>,
+        capacity: u64,
+        timeout: Millis,
+        resolution: Resolution,
+    ) -> Result<Engine, Refusal> {
+        let refusal = face::open(&mut memory, capacity, timeout.0, resolution.number());
+        unless_refused(refusal, Engine { state: memory })
+    }
+
+    /// An engine that goes on from a state which [`Engine::state`] gave.
+    ///
+    /// Refused with [`Refusal::Damaged`] where the bytes are not a sound state.
+    ///
+    /// ```
+    /// use braidpuddle::{Engine, Millis, Refusal, Resolution};
+    ///
+    /// let engine = Engine::open(2, Millis(1000), Resolution::Finer)?;
+    /// let saved = engine.state().to_vec();
+    /// assert!(Engine::from_state(saved) == Ok(engine));
+    /// assert_eq!(Engine::from_state(vec![0; 2000]).err(), Some(Refusal::Damaged));
+    /// # Ok::<(), Refusal>(())
+    /// ```
+    pub fn from_state(state: Vec<u8>) -> Result<Engine, Refusal> {
+        match face::open_flows(&state) {
+            DAMAGED => Err(Refusal::Damaged),
+            _ => Ok(Engine { state }),
+        }
+    }
+
+    /// How many bytes a state of this capacity takes; `None` where opening refuses the capacity.
+    ///
+    /// ```
+    /// # use braidpuddle::Engine;
+    /// assert_eq!(Engine::state_bytes(1), Some(896));
+    /// assert_eq!(Engine::state_bytes(0), None);
+    /// ```
+    pub fn state_bytes(capacity: u64) -> Option<usize> {
+        match face::state_bytes(capacity) {
+            0 => None,
+            bytes => Some(bytes as usize),
+        }
+    }
+
+    /// The state's bytes, to be saved.
+    pub fn state(&self) -> &[u8] {
+        &self.state
+    }
+
+    /// The most flows that are open at once.
+    ///
+    /// ```
+    /// # use braidpuddle::{Engine, Millis, Resolution};
+    /// let engine = Engine::open(7, Millis(1), Resolution::Finer).unwrap();
+    /// assert_eq!((engine.capacity(), engine.room_for_one()), (7, 8 * 358));
+    /// ```
+    pub fn capacity(&self) -> u64 {
+        let mut bytes = [0; 8];
+        bytes.copy_from_slice(&self.state[CAPACITY_BYTES]);
+        u64::from_le_bytes(bytes)
+    }
+
+    /// Output that always suffices for one packet, and so for any sweep or drain.
+    pub fn room_for_one(&self) -> usize {
+        room_for_one(self.capacity())
+    }
+
+    /// How many flows are open. It reads the whole state once.
+    pub fn open_flows(&self) -> u64 {
+        face::open_flows(&self.state)
+    }
+
+    /// Feeds a batch of packet forms: its packets are taken in order, to the batch's end or to the first that is refused. The records of
+    /// flows that end are written one behind another from the output's front.
+    ///
+    /// A refused packet changes nothing and begins at `batch[fed.used..]`. By its refusal:
+    /// - [`Refusal::Packet`]: no packet form begins there;
+    /// - [`Refusal::Short`]: the batch stops in the middle of a packet, which is to be fed again with the bytes that follow;
+    /// - [`Refusal::Full`]: it would open a flow, and the capacity is reached;
+    /// - [`Refusal::Spent`]: a count of its record would pass 64 bits;
+    /// - [`Refusal::Room`]: its records need more than is left of the output: take them away and feed the rest again.
+    ///   [`Engine::room_for_one`] bytes always suffice for one packet.
+    ///
+    /// ```
+    /// use braidpuddle::{Engine, Millis, Refusal, Resolution};
+    ///
+    /// let mut engine = Engine::open(4, Millis(1000), Resolution::Finer)?;
+    /// let mut out = vec![0; engine.room_for_one()];
+    /// let fed = engine.feed(&[0, 60, 60], &mut out); // the beginning of a packet
+    /// assert_eq!((fed.refusal, fed.packets, fed.used), (Some(Refusal::Short), 0, 0));
+    /// # Ok::<(), Refusal>(())
+    /// ```
+    pub fn feed<'out>(&mut self, batch: &[u8], out: &'out mut [u8]) -> Fed<'out> {
+        let answer = face::feed(&mut self.state, batch, out);
+        let [refusal, packets, used, opened, records, filled] = answer;
+        Fed {
+            refusal: Refusal::from_number(refusal),
+            packets,
+            used: used as usize,
+            opened,
+            records,
+            filled: &out[..filled as usize],
+        }
+    }
+
+    /// Sweeps: the clock becomes the greater of itself and the time, and each flow that is due by it leaves with a record, in order of
+    /// end, then of key bytes.
+    ///
+    /// Refused with [`Refusal::Room`] where the output is too small; nothing has then left, and the clock stays.
+    ///
+    /// ```
+    /// # use braidpuddle::{Endpoints, Engine, Facts, Key, Millis, Nanos, Packet, Refusal, Resolution};
+    /// # let key = Key::new(17, "10.0.0.1".parse().unwrap(), "10.0.0.2".parse().unwrap(), Endpoints::None);
+    /// # let mut batch = Vec::new();
+    /// # Packet { facts: Facts::default(), key }.encode(&mut batch)?;
+    /// let mut engine = Engine::open(4, Millis(1), Resolution::Finer)?;
+    /// let mut out = vec![0; engine.room_for_one()];
+    /// engine.feed(&batch, &mut out); // a packet at time 0
+    /// assert_eq!(engine.sweep(Nanos(1_499_999), &mut out)?.records, 0);
+    /// assert_eq!(engine.sweep(Nanos(1_500_000), &mut out)?.records, 1);
+    /// # Ok::<(), Refusal>(())
+    /// ```
+    pub fn sweep<'out>(
+        &mut self,
+        time: Nanos,
+        out: &'out mut [u8],
+    ) -> Result<Written<'out>, Refusal> {
+        let answer = face::sweep(&mut self.state, time.0, out);
+        Written::of(answer, out)
+    }
+
+    /// Drains: every open flow leaves with a record, in order of key bytes. The clock stays, and the engine may be fed again.
+    ///
+    /// Refused with [`Refusal::Room`] where the output is too small; nothing has then left.
+    ///
+    /// ```
+    /// # use braidpuddle::{Endpoints, Engine, Facts, Key, Millis, Packet, Refusal, Resolution};
+    /// # let key = Key::new(17, "10.0.0.1".parse().unwrap(), "10.0.0.2".parse().unwrap(), Endpoints::None);
+    /// # let mut batch = Vec::new();
+    /// # Packet { facts: Facts::default(), key }.encode(&mut batch)?;
+    /// let mut engine = Engine::open(4, Millis(1), Resolution::Finer)?;
+    /// let mut out = vec![0; engine.room_for_one()];
+    /// engine.feed(&batch, &mut out); // a packet of one flow
+    /// assert_eq!(engine.open_flows(), 1);
+    /// assert_eq!(engine.drain(&mut []), Err(Refusal::Room));
+    /// assert_eq!(engine.drain(&mut out)?.records, 1);
+    /// assert_eq!(engine.open_flows(), 0);
+    /// # Ok::<(), Refusal>(())
+    /// ```
+    pub fn drain<'out>(&mut self, out: &'out mut [u8]) -> Result<Written<'out>, Refusal> {
+        let answer = face::drain(&mut self.state, out);
+        Written::of(answer, out)
+    }
+}
+
+/// The state's bytes say little to a reader, and are many.
+impl std::fmt::Debug for Engine {
+    fn fmt(&self, f: &mut std::fmt::Formatter<'_>) -> std::fmt::Result {
+        f.debug_struct("Engine")
+            .field("capacity", &self.capacity())
+            .field("open_flows", &self.open_flows())
+            .finish_non_exhaustive()
+    }
+}
+
+/// What feeding answers.
+#[derive(Debug, Clone, Copy, PartialEq, Eq)]
+pub struct Fed<'out> {
+    /// What stopped it; `None` where the whole batch is taken.
+    pub refusal: Option<Refusal>,
+    /// How many packets are taken.
+    pub packets: u64,
+    /// How many bytes of the batch they took.
+    pub used: usize,
+    /// How many flows were opened.
+    pub opened: u64,
+    /// How many records are written.
+    pub records: u64,
+    /// The part of the output that they fill.
+    pub filled: &'out [u8],
+}
+
+impl<'out> Fed<'out> {
+    /// The records that are written.
+    pub fn finished(&self) -> Records<'out> {
+        Records::new(self.filled)
+    }
+}
+
+/// What a sweep or a drain has written.
+#[derive(Debug, Clone, Copy, PartialEq, Eq)]
+pub struct Written<'out> {
+    /// How many records.
+    pub records: u64,
+    /// The part of the output that they fill.
+    pub filled: &'out [u8],
+}
+
+impl<'out> Written<'out> {
+    fn of(answer: Answer, out: &'out [u8]) -> Result<Written<'out>, Refusal> {
+        let [refusal, _, _, _, records, filled] = answer;
+        let filled = &out[..filled as usize];
+        unless_refused(refusal, Written { records, filled })
+    }
+
+    /// The records that are written.
+    pub fn finished(&self) -> Records<'out> {
+        Records::new(self.filled)
+    }
+}
