@@ -274,10 +274,13 @@ pub fn ip_version(key: &[u8]) -> u64 {
     unsafe { library::braidpuddle_ip_version(key.as_ptr(), key.len()) }
 }
 
-pub fn reversed(key: &[u8], out: &mut [u8]) -> (u64, u64) {
+/// A function of the library that writes a key made of the one given.
+type KeyMaker = unsafe extern "C" fn(*const u8, usize, *mut u8, usize, *mut u64) -> u64;
+
+fn made_key(make: KeyMaker, key: &[u8], out: &mut [u8]) -> (u64, u64) {
     let mut written = 0;
     let refusal = unsafe {
-        library::braidpuddle_reversed(
+        make(
             key.as_ptr(),
             key.len(),
             out.as_mut_ptr(),
@@ -288,18 +291,12 @@ pub fn reversed(key: &[u8], out: &mut [u8]) -> (u64, u64) {
     (refusal, written)
 }
 
+pub fn reversed(key: &[u8], out: &mut [u8]) -> (u64, u64) {
+    made_key(library::braidpuddle_reversed, key, out)
+}
+
 pub fn forget_link_addresses(key: &[u8], out: &mut [u8]) -> (u64, u64) {
-    let mut written = 0;
-    let refusal = unsafe {
-        library::braidpuddle_forget_link_addresses(
-            key.as_ptr(),
-            key.len(),
-            out.as_mut_ptr(),
-            out.len(),
-            &mut written,
-        )
-    };
-    (refusal, written)
+    made_key(library::braidpuddle_forget_link_addresses, key, out)
 }
 
 // ---- a host's own record
