@@ -2,7 +2,10 @@
  * braidpuddle: a network flow meter. Packets go in, flow records come out, one record for each conversation.
  *
  * The rules are document 01's ("Description of the build and its rules"): byte forms, the plain rules, calls and refusals. Words such
- * as packet form, key form, record form, sound record, sound state, Short mean here what they mean there.
+ * as packet form, key form, record form, sound record, sound state, Short mean here what they mean there. docs/RULES.md has the rules in
+ * short; what a probe maker needs of them stands below.
+ *
+ * Link with libbraidpuddle.a (cc probe.c -lbraidpuddle); of other libraries it needs memset alone.
  *
  * How to call
  * -----------
@@ -18,6 +21,7 @@
  *   Damaged, a call leaves every byte of the state as it was; with another number, due times in its queue may have been brought up to date.
  * - Unless said otherwise, the result is the refusal's number, 0 for none (enum braidpuddle_refusal).
  * - A call takes up to about 90 kilobytes of stack.
+ * - Each call on a state first checks all of it, about a tenth of a microsecond for each open flow: feed large batches.
  * - For 64-bit machines: size_t has 64 bits.
  *
  * A probe in short
@@ -29,6 +33,16 @@
  *     now and then:         braidpuddle_sweep, so that silent flows are handed out too
  *     at the end:           braidpuddle_drain
  *
+ * What becomes of packets
+ * -----------------------
+ * - A record's key is that of the packet which opened the flow; forward is that packet's direction. A packet under the reversed key counts
+ *   as reverse, except that with an SPI each direction is a flow of its own.
+ * - RST ends its flow with that packet, as Rst. After FIN both ways the next packet of the flow is counted and ends it, as Fin; but one with
+ *   SYN ends it uncounted and opens another, and that packet ends nothing more, even with RST. FIN, SYN and RST are obeyed for any protocol.
+ * - A flow is due once the latest time seen, of packets and sweeps, has reached its latest packet + timeout + the lesser of one second and
+ *   half the timeout: then the next packet of any flow, or the next sweep, hands it out, as Fin if FIN was seen both ways, else as
+ *   IdleTimeout. A packet before that still counts on it. A late packet counts on its open flow; if it opens one that is already due, that one leaves next.
+ *
  * The key form has no writer here but its numbers have (braidpuddle_write_number). It is, in this order:
  *     protocol        number, at most 255
  *     ethertype       optional number, 16 bits
@@ -37,8 +51,10 @@
  *     destination     the same
  *     source MAC      6 raw bytes
  *     destination MAC 6 raw bytes
- *     VLAN tags       0; 1 and a tag; 2 and two tags, the outer first (16 bits each)
- *     encapsulation   optional kind (8 bits) and, only where it is present, an optional id (32 bits)
+ *     VLAN tags       0; 1 and a tag; 2 and two tags, the outer first (16 bits each: the id without priority bits)
+ *     encapsulation   optional kind (8 bits: 0 VXLAN, 1 Geneve, 2 GRE, 3 MPLS, 4 PPPoE, 5 IP in IP, 6 other) and, only where it is
+ *                     present, an optional id (32 bits)
+ * What is not IP has an ethertype, protocol 0, no endpoints, and addresses 0.0.0.0 or those inside an ARP packet; IP has no ethertype.
  * A number has groups of seven bits, low group first, the top bit set while more follow, in the shortest form. An optional is 0 for
  * absent, else its value plus 1: this holds for the byte forms and for every optional number of the arrays below.
  */
@@ -252,7 +268,7 @@ enum braidpuddle_record {
     BRAIDPUDDLE_RECORD_NUMBERS = 37
 };
 
-/* Where a record form's parts are, in the bytes that it was read from, and its end reason. */
+/* Where a record form's parts are, in the bytes that it was read from, and its end reason: its key form is bytes[KEY] to bytes[END - 1]. */
 enum braidpuddle_record_place {
     BRAIDPUDDLE_RECORD_PLACE_KEY = 0,    /* where its key form begins */
     BRAIDPUDDLE_RECORD_PLACE_END = 1,    /* where it ends: the bytes it took */
@@ -284,8 +300,8 @@ uint64_t braidpuddle_state_bytes(uint64_t capacity);
  *
  * state, state_length  the memory. Bytes beyond braidpuddle_state_bytes(capacity) are never read or written, by this call or a later one
  * capacity             the most flows that are open at once, 1 to 4096
- * timeout_ms           a flow without packets for this long leaves with a sweep, some time later (document 01, "Times"); in
- *                      milliseconds. With 0 nothing is swept
+ * timeout_ms           in milliseconds: a flow is due this long after its latest packet, and the lesser of one second and half of it more
+ *                      ("What becomes of packets" above). With 0 nothing is swept
  * resolution           0 microseconds, any other number finer; it is noted in each record and changes nothing else
  *
  * Refusals, in this order; the memory stays as it was:
@@ -307,9 +323,9 @@ uint64_t braidpuddle_open(uint8_t *state, size_t state_length, uint64_t capacity
  *   3 Damaged   the state is not sound
  * Then packet by packet, in this order. The packets before are taken, and their records are written; the refused packet changes
  * nothing, neither a flow nor the clock. It begins at batch + answer[BRAIDPUDDLE_ANSWER_USED]:
- *   4 Packet    what remains of the batch is neither begun by a packet form nor Short
+ *   4 Packet    what remains of the batch is neither begun by a packet form nor Short: there is no telling where the next packet begins
  *   9 Short     what remains is a proper beginning of a packet form: feed it again with the bytes that follow
- *   5 Full      the packet would open a flow, and capacity flows are open
+ *   5 Full      the packet would open a flow, and capacity flows are open: skip it (braidpuddle_read_packet gives its length), or drain
  *   6 Spent     the record that takes the packet would pass 2^64 - 1 in packets, octets or captured octets
  *   7 Room      the records that the packet finishes need more bytes than the output has left: take the records away and feed the rest
  *               again. BRAIDPUDDLE_ROOM_FOR_ONE(capacity) bytes always suffice for one packet
@@ -357,7 +373,7 @@ uint64_t braidpuddle_open_flows(const uint8_t *state, size_t state_length);
  * Reads the number that the bytes begin with.
  *
  * bytes, length  the bytes; what lies behind the number does not matter
- * most           the bound of the field that is read: a number above it is none
+ * most           the bound of the field that is read: a number above it is none. For an optional the field's plus 1: 65536 for 16 bits
  * answer         set to the value and to the bytes that it took
  *
  * Refusals; answer stays as it was:
@@ -371,7 +387,7 @@ uint64_t braidpuddle_read_number(const uint8_t *bytes, size_t length, uint64_t m
  *
  * out, out_length  the output; BRAIDPUDDLE_NUMBER_MOST bytes always suffice. Bytes behind the number stay as they were
  * value            the number
- * most             the bound of its field
+ * most             the bound of its field; for an optional that plus 1
  * written          set to the bytes that it took
  *
  * Refusals, in this order; out and written stay as they were:

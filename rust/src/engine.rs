@@ -26,6 +26,14 @@ const DAMAGED: u64 = u64::MAX;
 /// A flow meter with room for so many open flows. It owns its state, which is sound at any time: so of the calls on an engine none is
 /// refused with [`Refusal::Damaged`].
 ///
+/// A flow's record has the key of the packet that opened it, and that packet's direction is forward. RST ends a flow with its packet. After FIN
+/// both ways the next packet is counted and ends the flow as Fin; but one with SYN ends it uncounted and opens another. A flow is due once the
+/// latest time seen has reached its latest packet + the timeout + the lesser of one second and half the timeout; the next packet or sweep then
+/// hands it out.
+///
+/// Each call first checks the whole state, about a tenth of a microsecond for each open flow: feed large batches. A call takes up to about 90
+/// kilobytes of stack.
+///
 /// ```
 /// use braidpuddle::{Endpoints, Engine, Facts, Key, Millis, Nanos, Packet, Resolution, TcpFlags};
 ///
@@ -55,10 +63,20 @@ const DAMAGED: u64 = u64::MAX;
 /// assert_eq!(record.to_string(), "Rst 0 70 1 1 60 60");
 /// # Ok::<(), braidpuddle::Refusal>(())
 /// ```
-#[derive(Clone, PartialEq, Eq)]
+#[derive(Clone)]
 pub struct Engine {
-    state: Vec<u8>,
+    /// The state, and behind it whatever else the memory has.
+    memory: Vec<u8>,
 }
+
+/// Two engines are equal if their states are, byte for byte.
+impl PartialEq for Engine {
+    fn eq(&self, other: &Engine) -> bool {
+        self.state() == other.state()
+    }
+}
+
+impl Eq for Engine {}
 
 impl Engine {
     /// Opens an engine: its clock at 0, no flow open.
@@ -93,7 +111,7 @@ impl Engine {
         resolution: Resolution,
     ) -> Result<Engine, Refusal> {
         let refusal = face::open(&mut memory, capacity, timeout.0, resolution.number());
-        unless_refused(refusal, Engine { state: memory })
+        unless_refused(refusal, Engine { memory })
     }
 
     /// An engine that goes on from a state which [`Engine::state`] gave.
@@ -109,10 +127,10 @@ impl Engine {
     /// assert_eq!(Engine::from_state(vec![0; 2000]).err(), Some(Refusal::Damaged));
     /// # Ok::<(), Refusal>(())
     /// ```
-    pub fn from_state(state: Vec<u8>) -> Result<Engine, Refusal> {
-        match face::open_flows(&state) {
+    pub fn from_state(memory: Vec<u8>) -> Result<Engine, Refusal> {
+        match face::open_flows(&memory) {
             DAMAGED => Err(Refusal::Damaged),
-            _ => Ok(Engine { state }),
+            _ => Ok(Engine { memory }),
         }
     }
 
@@ -130,9 +148,9 @@ impl Engine {
         }
     }
 
-    /// The state's bytes, to be saved.
+    /// The state's bytes, to be saved. Memory beyond them ([`Engine::open_in`]) is not among them.
     pub fn state(&self) -> &[u8] {
-        &self.state
+        &self.memory[..face::state_bytes(self.capacity()) as usize]
     }
 
     /// The most flows that are open at once.
@@ -144,7 +162,7 @@ impl Engine {
     /// ```
     pub fn capacity(&self) -> u64 {
         let mut bytes = [0; 8];
-        bytes.copy_from_slice(&self.state[CAPACITY_BYTES]);
+        bytes.copy_from_slice(&self.memory[CAPACITY_BYTES]);
         u64::from_le_bytes(bytes)
     }
 
@@ -155,7 +173,7 @@ impl Engine {
 
     /// How many flows are open. It reads the whole state once.
     pub fn open_flows(&self) -> u64 {
-        face::open_flows(&self.state)
+        face::open_flows(&self.memory)
     }
 
     /// Feeds a batch of packet forms: its packets are taken in order, to the batch's end or to the first that is refused. The records of
@@ -179,7 +197,7 @@ impl Engine {
     /// # Ok::<(), Refusal>(())
     /// ```
     pub fn feed<'out>(&mut self, batch: &[u8], out: &'out mut [u8]) -> Fed<'out> {
-        let answer = face::feed(&mut self.state, batch, out);
+        let answer = face::feed(&mut self.memory, batch, out);
         let [refusal, packets, used, opened, records, filled] = answer;
         Fed {
             refusal: Refusal::from_number(refusal),
@@ -203,7 +221,7 @@ impl Engine {
     /// # Packet { facts: Facts::default(), key }.encode(&mut batch)?;
     /// let mut engine = Engine::open(4, Millis(1), Resolution::Finer)?;
     /// let mut out = vec![0; engine.room_for_one()];
-    /// engine.feed(&batch, &mut out); // a packet at time 0
+    /// assert_eq!(engine.feed(&batch, &mut out).packets, 1); // at time 0
     /// assert_eq!(engine.sweep(Nanos(1_499_999), &mut out)?.records, 0);
     /// assert_eq!(engine.sweep(Nanos(1_500_000), &mut out)?.records, 1);
     /// # Ok::<(), Refusal>(())
@@ -213,11 +231,12 @@ impl Engine {
         time: Nanos,
         out: &'out mut [u8],
     ) -> Result<Written<'out>, Refusal> {
-        let answer = face::sweep(&mut self.state, time.0, out);
+        let answer = face::sweep(&mut self.memory, time.0, out);
         Written::of(answer, out)
     }
 
-    /// Drains: every open flow leaves with a record, in order of key bytes. The clock stays, and the engine may be fed again.
+    /// Drains: every open flow leaves with a record, in order of key bytes, as Fin if FIN was seen both ways, else as CaptureEnd. The clock
+    /// stays, and the engine may be fed again.
     ///
     /// Refused with [`Refusal::Room`] where the output is too small; nothing has then left.
     ///
@@ -228,7 +247,7 @@ impl Engine {
     /// # Packet { facts: Facts::default(), key }.encode(&mut batch)?;
     /// let mut engine = Engine::open(4, Millis(1), Resolution::Finer)?;
     /// let mut out = vec![0; engine.room_for_one()];
-    /// engine.feed(&batch, &mut out); // a packet of one flow
+    /// assert_eq!(engine.feed(&batch, &mut out).opened, 1);
     /// assert_eq!(engine.open_flows(), 1);
     /// assert_eq!(engine.drain(&mut []), Err(Refusal::Room));
     /// assert_eq!(engine.drain(&mut out)?.records, 1);
@@ -236,7 +255,7 @@ impl Engine {
     /// # Ok::<(), Refusal>(())
     /// ```
     pub fn drain<'out>(&mut self, out: &'out mut [u8]) -> Result<Written<'out>, Refusal> {
-        let answer = face::drain(&mut self.state, out);
+        let answer = face::drain(&mut self.memory, out);
         Written::of(answer, out)
     }
 }
@@ -253,6 +272,7 @@ impl std::fmt::Debug for Engine {
 
 /// What feeding answers.
 #[derive(Debug, Clone, Copy, PartialEq, Eq)]
+#[must_use = "a refusal may have stopped the batch, and the records are in it"]
 pub struct Fed<'out> {
     /// What stopped it; `None` where the whole batch is taken.
     pub refusal: Option<Refusal>,

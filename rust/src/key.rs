@@ -91,6 +91,8 @@ impl Encapsulation {
 /// assert_eq!(there.protocol_name(), "tcp");
 /// assert_eq!(there.ip_version(), Some(4));
 /// ```
+///
+/// Keys are ordered by their fields, which is not the order of key bytes in which sweeps and drains write.
 #[derive(Debug, Clone, Copy, PartialEq, Eq, Hash, PartialOrd, Ord)]
 pub struct Key {
     /// The IP protocol's number, or 0 for traffic that has none.
@@ -99,7 +101,7 @@ pub struct Key {
     pub ethertype: Option<u16>,
     /// Ports, or what stands in their place.
     pub endpoints: Endpoints,
-    /// The address of the end that sent the packet which opened the flow.
+    /// In a packet its sender's address; in a record that of the sender of the packet which opened the flow.
     pub source: Address,
     /// The other end's address.
     pub destination: Address,

@@ -20,9 +20,9 @@ pub const RECORD_MOST: usize = 358;
 /// ```
 #[derive(Debug, Clone, Copy, PartialEq, Eq, Hash, PartialOrd, Ord)]
 pub enum EndReason {
-    /// No packet for the timeout and longer.
+    /// The flow was due: no packet for the timeout, and the lesser of one second and half the timeout more.
     IdleTimeout = 0,
-    /// Both sides were done.
+    /// FIN was seen both ways, and a packet more, a SYN, a sweep or a drain ended the flow.
     Fin = 1,
     /// One side reset the connection.
     Rst = 2,
