@@ -1,9 +1,34 @@
-//! What the programs that compare are started with.
+//! What the programs that compare are started with, and what they end with.
 
+use std::fmt::Display;
+use std::process::ExitCode;
 use std::time::{SystemTime, UNIX_EPOCH};
 
+/// Puts the command line's numbers behind their names. Where it cannot, it has said why and how the program is called, and answers the
+/// status to end with.
+pub fn from_command_line(usage: &str, numbers: &mut [(&str, &mut u64)]) -> Result<(), ExitCode> {
+    read(std::env::args().skip(1), numbers).map_err(|complaint| {
+        eprintln!("{complaint}\nusage: {usage}");
+        ExitCode::from(2)
+    })
+}
+
+/// Says what was compared, or has the seed that shows a difference reported; answers the status to end with.
+pub fn outcome<T: Display>(compared: Result<T, u64>, report: impl FnOnce(u64)) -> ExitCode {
+    match compared {
+        Ok(tally) => {
+            println!("no difference: {tally}");
+            ExitCode::SUCCESS
+        }
+        Err(seed) => {
+            report(seed);
+            ExitCode::FAILURE
+        }
+    }
+}
+
 /// Puts each number behind its name, or answers what is wrong with the arguments.
-pub fn read(
+fn read(
     mut arguments: impl Iterator<Item = String>,
     numbers: &mut [(&str, &mut u64)],
 ) -> Result<(), String> {

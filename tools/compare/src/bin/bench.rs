@@ -39,11 +39,9 @@ struct Load {
 
 fn main() -> ExitCode {
     let (mut packets, mut rounds) = (400_000, 7);
-    let arguments = std::env::args().skip(1);
     let numbers = &mut [("--packets", &mut packets), ("--rounds", &mut rounds)];
-    if let Err(complaint) = options::read(arguments, numbers) {
-        eprintln!("{complaint}\nusage: bench [--packets N] [--rounds N]");
-        return ExitCode::from(2);
+    if let Err(status) = options::from_command_line("bench [--packets N] [--rounds N]", numbers) {
+        return status;
     }
     if !ours::AT_HAND {
         return ours::missing();
@@ -104,7 +102,11 @@ fn load(flows: u64, churn: bool, batch: usize, packets: u64) -> Load {
     let mut batches = vec![Vec::with_capacity(batch)];
     for i in 0..packets {
         let opens = i < flows;
-        let flow = if opens { i } else { random.below(flows as usize) as u64 };
+        let flow = if opens {
+            i
+        } else {
+            random.below(flows as usize) as u64
+        };
         let ends = churn && !opens && random.below(PACKETS_TO_AN_END) == 0;
         let flags = if ends { ACK | RST } else { ACK };
         let forward = opens || random.below(2) == 0;

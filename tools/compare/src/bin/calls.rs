@@ -17,56 +17,25 @@ use compare::scripts::shrink::shortest;
 
 const CALLS: u64 = 100_000;
 
-struct Options {
-    calls: u64,
-    seed: u64,
-}
-
 fn main() -> ExitCode {
-    let options = match options() {
-        Ok(options) => options,
-        Err(complaint) => {
-            eprintln!("{complaint}\nusage: calls [--calls N] [--seed S]");
-            return ExitCode::from(2);
-        }
-    };
+    let (mut calls, mut seed) = (CALLS, seed_from_the_clock());
+    let numbers = &mut [("--calls", &mut calls), ("--seed", &mut seed)];
+    if let Err(status) = options::from_command_line("calls [--calls N] [--seed S]", numbers) {
+        return status;
+    }
     if !ours::AT_HAND {
         return ours::missing();
     }
-    println!("seed {}; model, library", options.seed);
+    println!("seed {seed}; model, library");
     watch::start();
-    match compare_all(&options) {
-        Ok(tally) => {
-            println!("no difference: {tally}");
-            ExitCode::SUCCESS
-        }
-        Err(seed) => {
-            report(seed);
-            ExitCode::FAILURE
-        }
-    }
-}
-
-fn options() -> Result<Options, String> {
-    let mut options = Options {
-        calls: CALLS,
-        seed: seed_from_the_clock(),
-    };
-    options::read(
-        std::env::args().skip(1),
-        &mut [
-            ("--calls", &mut options.calls),
-            ("--seed", &mut options.seed),
-        ],
-    )?;
-    Ok(options)
+    options::outcome(compare_all(calls, seed), report)
 }
 
 /// What was compared, or the seed of the first case that shows a difference.
-fn compare_all(options: &Options) -> Result<Tally, u64> {
+fn compare_all(calls: u64, first_seed: u64) -> Result<Tally, u64> {
     let mut tally = Tally::default();
-    let mut seed = options.seed;
-    while tally.calls() < options.calls {
+    let mut seed = first_seed;
+    while tally.calls() < calls {
         match differs(seed, &make::case(seed)) {
             Ok(one) => tally.add(&one),
             Err(_) => return Err(seed),

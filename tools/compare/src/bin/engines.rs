@@ -19,49 +19,18 @@ use compare::scripts::{Script, make, show, shrink};
 
 const SCRIPTS: u64 = 2000;
 
-struct Options {
-    scripts: u64,
-    seed: u64,
-}
-
 fn main() -> ExitCode {
-    let options = match options() {
-        Ok(options) => options,
-        Err(complaint) => {
-            eprintln!("{complaint}\nusage: engines [--scripts N] [--seed S]");
-            return ExitCode::from(2);
-        }
-    };
+    let (mut scripts, mut seed) = (SCRIPTS, seed_from_the_clock());
+    let numbers = &mut [("--scripts", &mut scripts), ("--seed", &mut seed)];
+    if let Err(status) = options::from_command_line("engines [--scripts N] [--seed S]", numbers) {
+        return status;
+    }
     let names: Vec<&str> = engines().iter().map(|engine| engine.name()).collect();
-    println!("seed {}; {}", options.seed, names.join(", "));
+    println!("seed {seed}; {}", names.join(", "));
     if !ours::AT_HAND {
         ours::missing();
     }
-    match compare_all(&options) {
-        Ok(tally) => {
-            println!("no difference: {tally}");
-            ExitCode::SUCCESS
-        }
-        Err(seed) => {
-            report(seed);
-            ExitCode::FAILURE
-        }
-    }
-}
-
-fn options() -> Result<Options, String> {
-    let mut options = Options {
-        scripts: SCRIPTS,
-        seed: seed_from_the_clock(),
-    };
-    options::read(
-        std::env::args().skip(1),
-        &mut [
-            ("--scripts", &mut options.scripts),
-            ("--seed", &mut options.seed),
-        ],
-    )?;
-    Ok(options)
+    options::outcome(compare_all(scripts, seed), report)
 }
 
 /// The first is the one that the others are compared with.
@@ -75,11 +44,11 @@ fn engines() -> Vec<Box<dyn Engine>> {
 }
 
 /// What was compared, or the seed of the first script that shows a difference.
-fn compare_all(options: &Options) -> Result<Tally, u64> {
+fn compare_all(scripts: u64, first_seed: u64) -> Result<Tally, u64> {
     let mut engines = engines();
     let mut tally = Tally::default();
-    for place in 0..options.scripts {
-        let seed = options.seed.wrapping_add(place);
+    for place in 0..scripts {
+        let seed = first_seed.wrapping_add(place);
         match run(&make::script(seed), &mut engines) {
             Ok(one) => tally.add(&one),
             Err(_) => return Err(seed),

@@ -19,53 +19,33 @@ use compare::scripts::shrink::shortest;
 const KEYS: u64 = 100_000;
 const RECORDS: u64 = 10_000;
 
-struct Options {
-    keys: u64,
-    records: u64,
-    seed: u64,
-}
-
 fn main() -> ExitCode {
-    let options = match options() {
-        Ok(options) => options,
-        Err(complaint) => {
-            eprintln!("{complaint}\nusage: keys [--keys N] [--records N] [--seed S]");
-            return ExitCode::from(2);
-        }
-    };
+    let (mut keys, mut records, mut seed) = (KEYS, RECORDS, seed_from_the_clock());
+    let numbers = &mut [
+        ("--keys", &mut keys),
+        ("--records", &mut records),
+        ("--seed", &mut seed),
+    ];
+    let usage = "keys [--keys N] [--records N] [--seed S]";
+    if let Err(status) = options::from_command_line(usage, numbers) {
+        return status;
+    }
     if !ours::AT_HAND {
         return ours::missing();
     }
-    println!("seed {}; Rust, model, library", options.seed);
-    if compare_keys(&options) && compare_records(&options) {
+    println!("seed {seed}; Rust, model, library");
+    if compare_keys(keys, seed) && compare_records(records, seed) {
         ExitCode::SUCCESS
     } else {
         ExitCode::FAILURE
     }
 }
 
-fn options() -> Result<Options, String> {
-    let mut options = Options {
-        keys: KEYS,
-        records: RECORDS,
-        seed: seed_from_the_clock(),
-    };
-    options::read(
-        std::env::args().skip(1),
-        &mut [
-            ("--keys", &mut options.keys),
-            ("--records", &mut options.records),
-            ("--seed", &mut options.seed),
-        ],
-    )?;
-    Ok(options)
-}
-
 /// Whether there is no difference.
-fn compare_keys(options: &Options) -> bool {
+fn compare_keys(keys: u64, first_seed: u64) -> bool {
     let mut tally = keys::Tally::default();
-    for place in 0..options.keys {
-        let seed = options.seed.wrapping_add(place);
+    for place in 0..keys {
+        let seed = first_seed.wrapping_add(place);
         let form = any_form(seed);
         if let Err(fault) = keys::compare(&form, &mut tally) {
             println!("a difference, in the key of seed {seed}: {}", hex(&form));
@@ -81,10 +61,10 @@ fn compare_keys(options: &Options) -> bool {
 }
 
 /// Whether there is no difference.
-fn compare_records(options: &Options) -> bool {
+fn compare_records(records: u64, first_seed: u64) -> bool {
     let mut tally = hosts::Tally::default();
-    for place in 0..options.records {
-        let seed = options.seed.wrapping_add(place);
+    for place in 0..records {
+        let seed = first_seed.wrapping_add(place);
         if hosts::compare(&any_host(seed), &mut tally).is_err() {
             report(seed);
             return false;
