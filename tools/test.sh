@@ -53,6 +53,10 @@ command -v cc >/dev/null 2>&1 || apt-get install -y gcc
 mkdir -p build
 
 rt fmt --check
+sh tools/edits.sh --look
+# More at a time than there are cores: `rt ci` waits for the slowest of those that it began together.
+RT_JOBS=${RT_JOBS:-4}
+export RT_JOBS
 rt ci 2>&1 | tee build/ci.txt
 last=$(tail -n 1 build/ci.txt)
 case $last in

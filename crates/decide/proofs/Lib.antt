@@ -6,3 +6,5 @@ pub mod Settling
 pub mod Chosen
 pub mod Deciding
 pub mod Answering
+pub mod StaysOpen
+pub mod PlainKeys

@@ -30,20 +30,15 @@ use Rattle.decide.specs.Decide.{Stays, DecideAsked}
 -- ## Both FINs of a slot
 
 -- word k of slot i's record
-word-in : (s : List ℕ) (i k : ℕ) → 256 + 624 * i + 624 ≤ length s → k < 37 → num (part s (256 + 624 * i + 80 + 8 * k) 8) ≡ getD (wordsIn (slot s i)) k 0
+pub word-in : (s : List ℕ) (i k : ℕ) → 256 + 624 * i + 624 ≤ length s → k < 37 → num (part s (256 + 624 * i + 80 + 8 * k) 8) ≡ getD (wordsIn (slot s i)) k 0
 unfolding wordsIn
 word-in s i k size low = sym (word-at s (256 + 624 * i + 80) 37 k low) ∙ ap (λ (ws : List ℕ). getD ws k 0) (words-at s i size)
 
 -- the fin counts are words 15 and 28
-pub fins-told : (s : List ℕ) (i : ℕ) {a b : ℕ} → 256 + 624 * i + 624 ≤ length s → a ≡ num (part s (256 + 624 * i + 200) 8)
-    → b ≡ num (part s (256 + 624 * i + 304) 8) → (ltb 0 a && ltb 0 b) ≡ bothFins (recordIn (slot s i))
+pub fins-told : (s : List ℕ) (i : ℕ) {a b : ℕ} → a ≡ getD (wordsIn (slot s i)) 15 0 → b ≡ getD (wordsIn (slot s i)) 28 0
+    → (ltb 0 a && ltb 0 b) ≡ bothFins (recordIn (slot s i))
 unfolding recordIn recordOf directionAt
-fins-told s i size p q =
-    let forward : 256 + 624 * i + 200 ≡ 256 + 624 * i + 80 + 8 * 15 = omega arith in
-    let reverse : 256 + 624 * i + 304 ≡ 256 + 624 * i + 80 + 8 * 28 = omega arith in
-    λ t.
-    ltb 0 ((p ∙ ap (λ (x : ℕ). num (part s x 8)) forward ∙ word-in s i 15 size (omega arith)) t)
-    && ltb 0 ((q ∙ ap (λ (x : ℕ). num (part s x 8)) reverse ∙ word-in s i 28 size (omega arith)) t)
+fins-told s i p q = λ t. ltb 0 (p t) && ltb 0 (q t)
 
 module _ (s : List ℕ) (f : Found) (i : ℕ) (b : Bool) (e : f ≡ Found.At i) (test : b ≡ bothFins (recordIn (slot s i))) where
   pub closed-there : b ≡ true → Found.At i ≡ ifClosedAt s f

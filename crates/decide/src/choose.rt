@@ -1,12 +1,16 @@
 // Steps 1 and 2: the flow that ends without the packet, and the flow that takes it.
 use crate::search::find_staying;
 use crate::search::find_turned;
+use crate::search::find_turned_plain;
+use crate::steady::word;
 use flow::record::Direction;
+use flow::record::PacketFacts;
 use flow::record::mask_of;
 use flow::time::Idle;
 use flow::time::Nanos;
 use forms::optional::OptU16;
 use key::key::FlowKey;
+use plain::Plain;
 use slots::Found;
 use state::keys::is_found;
 use wire::packet::Packet;
@@ -19,29 +23,25 @@ ghost use Rattle.flow.specs.Counting.{maskOf};
 ghost use Rattle.flow.specs.Summary.{syn, bitOf};
 ghost use Rattle.key.specs.Key.{reversedKey};
 ghost use Rattle.key.specs.KeyTheorems.{KeyInRange};
+ghost use Rattle.plain.specs.Plain.{keyRead};
 ghost use Rattle.rules.specs.Engine.{keyBytes, bothFins};
 ghost use Rattle.state.specs.Slot.{recordIn};
 ghost use Rattle.decide.specs.Search.{InState, SearchAsked};
 ghost use Rattle.decide.specs.Choose.{ifClosedAt, firstFound, unlessEnded, reusedAt, takenBy, choiceAt, TurnedIf};
 ghost use Rattle.decide.specs.Decide.{DecideAsked, Chosen};
+ghost use Rattle.decide.specs.PlainKey.{TurnedAsked, PlainAsked};
 
-// Where the slots begin.
-const HEADER_BYTES: usize = 256;
+// The word of a record that counts its forward FINs.
+const FORWARD_FINS: usize = 15;
 
-// The length of a slot.
-const SLOT_BYTES: usize = 624;
-
-// Where the count of forward FINs lies in a slot: word 15 of the record, which begins at 80.
-const FORWARD_FINS_AT: usize = 200;
-
-// Where the count of reverse FINs lies in a slot: word 28.
-const REVERSE_FINS_AT: usize = 304;
+// The word that counts its reverse FINs.
+const REVERSE_FINS: usize = 28;
 
 // The flow that step 1 ends, and the one that takes the packet, in that direction; no slot where a flow opens.
-pub(crate) struct Choice {
-    pub(crate) ended: Found,
-    pub(crate) slot: Found,
-    pub(crate) direction: Direction,
+pub struct Choice {
+    pub ended: Found,
+    pub slot: Found,
+    pub direction: Direction,
 }
 
 // Whether SYN is set.
@@ -52,13 +52,11 @@ fn has_syn(flags: OptU16) -> bool
 }
 
 // Whether slot i's flow has seen both FINs.
-fn closed_at(state: &[u8], i: usize) -> bool
+pub(crate) fn closed_at(state: &[u8], i: usize) -> bool
     requires { ⌜ 256 + 624 * i + 624 ≤ length (now state) ⌝ }
     ensures { λ r. ⌜ r ≡ bothFins (recordIn (slot (now (state .entry)) i)) ⌝ }
 {
-    let base = HEADER_BYTES + SLOT_BYTES * i;
-    (0 < memory::load_u64(state, base + FORWARD_FINS_AT))
-        & (0 < memory::load_u64(state, base + REVERSE_FINS_AT))
+    (0 < word(state, i, FORWARD_FINS)) & (0 < word(state, i, REVERSE_FINS))
 }
 
 // The slot, if its flow has seen both FINs.
@@ -203,4 +201,68 @@ pub(crate) fn choose(
     let needed = syn | (two_way & !is_found(own));
     let turned = turned_if(needed, state, capacity, index, idle, clock, key, hash);
     choice_of(state, syn, own, two_way, turned)
+}
+
+// The search under the reverse of a plain key, where it is needed.
+fn turned_plain_if(
+    needed: bool,
+    state: &[u8],
+    capacity: usize,
+    index: &[u32],
+    idle: Idle,
+    clock: Nanos,
+    batch: &[u8],
+    from: usize,
+    key: Plain,
+) -> Found
+    requires { ⌜ TurnedAsked (now state) capacity (now index) (now batch) from key ⌝ }
+    ensures { λ r. ⌜ TurnedIf needed (now (state .entry)) capacity (idle .timeout .0) (idle .lateness .0) (clock .0) (keyBytes (reversedKey (keyRead (now (batch .entry)) from))) r ⌝ }
+{
+    if needed {
+        return find_turned_plain(state, capacity, index, idle, clock, batch, from, key);
+    }
+    Found::Nothing
+}
+
+// Steps 1 and 2 for a packet with a plain key, which is looked for by its bytes where they lie.
+pub fn choose_plain(
+    state: &[u8],
+    capacity: usize,
+    index: &[u32],
+    idle: Idle,
+    clock: Nanos,
+    facts: PacketFacts,
+    batch: &[u8],
+    from: usize,
+    key: Plain,
+) -> Choice
+    requires { ⌜ PlainAsked (now state) capacity (now index) facts (now batch) from key ⌝ }
+    ensures { λ r. ⌜ Chosen (now (state .entry)) capacity (idle .timeout .0) (idle .lateness .0) (clock .0) (record { facts = facts; key = keyRead (now (batch .entry)) from }) (r .ended) (r .slot) (r .direction) ⌝ }
+{
+    let flags = facts.tcp_flags;
+    let next = key.next;
+    let syn = has_syn(flags);
+    let own = find_staying(
+        state,
+        capacity,
+        index,
+        idle,
+        clock,
+        &batch[from..next],
+        key.hash,
+    );
+    // As in `choose`: the reversed key matters to step 1 only with SYN, and to step 2 only where the key has no flow of its own.
+    let needed = syn | !is_found(own);
+    let turned = turned_plain_if(
+        needed,
+        state,
+        capacity,
+        index,
+        idle,
+        clock,
+        batch,
+        from,
+        key,
+    );
+    choice_of(state, syn, own, true, turned)
 }

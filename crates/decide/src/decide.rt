@@ -51,7 +51,7 @@ pub struct Decision {
 }
 
 // Whether RST is set.
-fn has_rst(flags: OptU16) -> bool
+pub(crate) fn has_rst(flags: OptU16) -> bool
     ensures { λ r. ⌜ r ≡ eqb (bitOf rst (maskOf flags)) 1 ⌝ }
 {
     mask_of(flags) / 4 % 2 == 1

@@ -2,3 +2,4 @@
 pub mod choose;
 pub mod decide;
 pub mod search;
+pub mod steady;

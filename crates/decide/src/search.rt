@@ -2,6 +2,8 @@
 use flow::time::Idle;
 use flow::time::Nanos;
 use key::key::FlowKey;
+use plain::Plain;
+use plain::write_turned;
 use slots::Found;
 use state::keys::front;
 use state::keys::write_reversed;
@@ -11,10 +13,12 @@ ghost use lib.ListN.{length};
 ghost use Rattle.slots.specs.Table.{slot};
 ghost use Rattle.key.specs.Key.{reversedKey};
 ghost use Rattle.key.specs.KeyTheorems.{KeyInRange};
+ghost use Rattle.plain.specs.Plain.{keyRead};
 ghost use Rattle.rules.specs.Engine.{keyBytes};
 ghost use Rattle.state.specs.Slot.{flowIn};
 ghost use Rattle.plan.specs.Plan.{leavesBy};
 ghost use Rattle.decide.specs.Search.{InState, ifStaying, SearchAsked, FoundStaying};
+ghost use Rattle.decide.specs.PlainKey.{TurnedAsked};
 
 // Whether slot i's flow leaves by the clock: its end + T + L is at most W, and there is a timeout.
 fn leaves(state: &[u8], i: usize, idle: Idle, clock: Nanos) -> bool
@@ -76,4 +80,31 @@ pub(crate) fn find_turned(
     let mut bytes = [0u8; 128];
     let n = write_reversed(&mut bytes, key);
     find_staying(state, capacity, index, idle, clock, front(&bytes, n), hash)
+}
+
+// The slot of the flow under the reverse of a plain key that stays. 64 bytes hold every plain key.
+pub(crate) fn find_turned_plain(
+    state: &[u8],
+    capacity: usize,
+    index: &[u32],
+    idle: Idle,
+    clock: Nanos,
+    batch: &[u8],
+    from: usize,
+    key: Plain,
+) -> Found
+    requires { ⌜ TurnedAsked (now state) capacity (now index) (now batch) from key ⌝ }
+    ensures { λ r. ⌜ FoundStaying (now (state .entry)) capacity (idle .timeout .0) (idle .lateness .0) (clock .0) (keyBytes (reversedKey (keyRead (now (batch .entry)) from))) r ⌝ }
+{
+    let mut bytes = [0u8; 64];
+    write_turned(&mut bytes, batch, from, key);
+    find_staying(
+        state,
+        capacity,
+        index,
+        idle,
+        clock,
+        front(&bytes, key.next - from),
+        key.hash,
+    )
 }

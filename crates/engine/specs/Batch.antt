@@ -6,7 +6,7 @@ use native.Mathlib.Omega.{arith}
 use native.Mathlib.Numerals.{add-one}
 use lib.ListN.{length, length-append, length-drop, drop, getD}
 use lib.Seq.{drop-cons}
-use Rattle.forms.specs.Form.{Read, got, short, refused, andThen}
+use Rattle.forms.specs.Form.{Form, Read, got, short, refused, andThen}
 use Rattle.forms.specs.At.{readAt, placed-byte, next-place}
 use Rattle.wire.specs.PacketForm.{packet}
 use Rattle.wire.specs.PacketTheorems.{PacketInRange, packet-in-range, packet-at-least}
@@ -92,15 +92,34 @@ begins (b ∷ bs) h = go (packet .read (b ∷ bs)) refl
     go refused e = refl
 
 -- what reading at a place finds of the batch from there on
+module _ {A : Type 0} (form : Form A) (batch : List ℕ) (at : ℕ) (some : at < length batch) where
+  read-from : readAt form batch at ≡ andThen (form .read (drop at batch)) (λ a rest. got a (length batch - length rest))
+  read-from =
+      placed-byte (form .read) batch at some
+      ∙ ap (λ (l : List ℕ). andThen (form .read l) (λ a rest. got a (length batch - length rest)))
+      (ap (λ (n : ℕ). getD batch at 0 ∷ drop n batch) (add-one at) ∙ sym (drop-cons batch at 0 some))
+
+  -- it ends behind the bytes of its form
+  pub ends-behind : (a : A) (n : ℕ) → readAt form batch at ≡ got a n → n ≡ at + length (form .write a)
+  ends-behind a n e = go (form .read (drop at batch)) refl (sym read-from ∙ e)
+    where
+      go : (r : Read A (List ℕ)) → form .read (drop at batch) ≡ r → andThen r (λ a rest. got a (length batch - length rest)) ≡ got a n → n ≡ at + length (form .write a)
+      go (got b rest) is w =
+          let same : b ≡ a = cc in
+          let place : length batch - length rest ≡ n = cc in
+          let size = ap length (form .back (drop at batch) b rest is .1) ∙ length-append (form .write b) rest in
+          let many = length-drop at batch in
+          let end : n ≡ at + length (form .write b) = omega arith in
+          end ∙ ap (λ (x : A). at + length (form .write x)) same
+      go short is w = absurd (let z : _≡_ {A = ℕ} 0 1 = cc in omega arith)
+      go refused is w = absurd (let z : _≡_ {A = ℕ} 0 1 = cc in omega arith)
+
 module _ (batch : List ℕ) (at : ℕ) (some : at < length batch) where
   left : 0 < length (drop at batch)
   left = omega (arith, length-drop at batch)
 
   read-here : readAt packet batch at ≡ andThen (packet .read (drop at batch)) (λ a rest. got a (length batch - length rest))
-  read-here =
-      placed-byte (packet .read) batch at some
-      ∙ ap (λ (l : List ℕ). andThen (packet .read l) (λ a rest. got a (length batch - length rest)))
-      (ap (λ (n : ℕ). getD batch at 0 ∷ drop n batch) (add-one at) ∙ sym (drop-cons batch at 0 some))
+  read-here = read-from packet batch at some
 
   pub short-here : readAt packet batch at ≡ short → parsed (drop at batch) ≡ record { packets = []; ends = Short }
   short-here e = begins (drop at batch) left ∙ go (packet .read (drop at batch)) (sym read-here ∙ e)

@@ -1,19 +1,27 @@
 // Feeding a batch: its packets one after another, to its empty end; only a refused packet stops it.
 use crate::FeedAnswer;
+use flow::record::PacketFacts;
 use flow::time::Idle;
 use flow::time::TimeResolution;
-use key::form::key_len;
+use key::form::KeyAt;
+use key::form::read_key_at;
 use packet::Step;
 use packet::one_packet;
-use wire::packet::PacketAt;
-use wire::packet::read_packet_at;
+use packet::steady::take_steady;
+use plain::PlainAt;
+use plain::plain_at;
+use wire::packet::FactsAt;
+use wire::packet::Packet;
+use wire::packet::read_facts_at;
 use wire::record::resolution_from;
 ghost use mathlib.Core.Path.{_≡_};
 ghost use mathlib.Core.Bool.{false};
 ghost use Prim.Native.Nat.{_+_, _<_};
 ghost use lib.ListN.{length};
+ghost use Rattle.forms.specs.Form.{got};
 ghost use Rattle.forms.specs.At.{readAt};
-ghost use Rattle.wire.specs.PacketForm.{packet};
+ghost use Rattle.wire.specs.PacketForm.{packet, facts as factsForm};
+ghost use Rattle.packet.specs.Steady.{quietStep};
 ghost use Rattle.state.specs.State.{settingsIn, meaning};
 ghost use Rattle.sweeps.specs.Steps.{SoundReady};
 ghost use Rattle.engine.specs.Batch.{parsed, feedBytes};
@@ -42,7 +50,60 @@ fn unread(number: u8, at: usize) -> Taken
     }
 }
 
-// The packet at a place of the batch.
+// A packet that was counted on an open flow, where nothing else happened.
+fn nothing_done() -> Step
+    ensures { λ r. ⌜ r ≡ quietStep ⌝ }
+{
+    Step {
+        refusal: 0,
+        opened: false,
+        records: 0,
+        bytes: 0,
+    }
+}
+
+// The packet whose facts have been read, by the general way.
+fn feed_behind(
+    state: &mut [u8],
+    capacity: usize,
+    idle: Idle,
+    resolution: TimeResolution,
+    batch: &[u8],
+    at: usize,
+    facts: PacketFacts,
+    from: usize,
+    index: &mut [u32],
+    free: &mut [u16],
+    leaving: &mut [u16],
+    out: &mut [u8],
+) -> Taken
+    requires { ⌜ OneAsked (now state) (now index) (now free) (now leaving) capacity idle resolution (now batch) at ⌝ }
+    requires { ⌜ readAt factsForm (now batch) at ≡ got facts from ⌝ }
+    ensures { λ r. ⌜ OneFed (readAt packet (now (batch .entry)) at) (now (state .entry)) (now (out .entry)) (now (index .entry)) (now (free .entry)) capacity idle resolution r (now (state .exit)) (now (out .exit)) (now (index .exit)) (now (free .exit)) ⌝ }
+{
+    match read_key_at(batch, from) {
+        KeyAt::Value(key, next) => {
+            let step = one_packet(
+                state,
+                capacity,
+                idle,
+                resolution,
+                Packet { facts, key },
+                &batch[from..next],
+                index,
+                free,
+                leaving,
+                out,
+            );
+            Taken { step, next }
+        }
+        KeyAt::Short => unread(9, at),
+        KeyAt::Refused => unread(4, at),
+    }
+}
+
+// The packet at a place of the batch. Most have a plain key and a flow that is open and stays open: for those there is a short way.
+// Each step here is a call with one caller, which makes the code fast.
 fn feed_one(
     state: &mut [u8],
     capacity: usize,
@@ -58,29 +119,33 @@ fn feed_one(
     requires { ⌜ OneAsked (now state) (now index) (now free) (now leaving) capacity idle resolution (now batch) at ⌝ }
     ensures { λ r. ⌜ OneFed (readAt packet (now (batch .entry)) at) (now (state .entry)) (now (out .entry)) (now (index .entry)) (now (free .entry)) capacity idle resolution r (now (state .exit)) (now (out .exit)) (now (index .exit)) (now (free .exit)) ⌝ }
 {
-    match read_packet_at(batch, at) {
-        PacketAt::Value(p, next) => {
-            let key = p.key;
-            let from = next - key_len(key);
-            let step = one_packet(
+    match read_facts_at(batch, at) {
+        FactsAt::Value(facts, from) => {
+            if let PlainAt::Key(key) = plain_at(batch, from) {
+                if take_steady(state, capacity, idle, facts, batch, from, key, index) {
+                    return Taken {
+                        step: nothing_done(),
+                        next: key.next,
+                    };
+                }
+            }
+            feed_behind(
                 state,
                 capacity,
                 idle,
                 resolution,
-                p,
-                &batch[from..next],
+                batch,
+                at,
+                facts,
+                from,
                 index,
                 free,
                 leaving,
                 out,
-            );
-            Taken {
-                step: step,
-                next: next,
-            }
+            )
         }
-        PacketAt::Short => unread(9, at),
-        PacketAt::Refused => unread(4, at),
+        FactsAt::Short => unread(9, at),
+        FactsAt::Refused => unread(4, at),
     }
 }
 

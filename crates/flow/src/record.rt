@@ -72,7 +72,7 @@ pub fn mask_of(flags: OptU16) -> u64
 }
 
 // The first that is present.
-fn first_of(kept: OptU16, new: OptU16) -> OptU16
+pub fn first_of(kept: OptU16, new: OptU16) -> OptU16
     ensures { λ r. ⌜ r ≡ firstOf kept new ⌝ }
 {
     match kept {
@@ -91,7 +91,7 @@ fn widened_by(ttl: OptRange8, value: OptU8) -> OptRange8
     }
 }
 
-fn counted_capture(c: CaptureStats, packet: PacketFacts) -> CaptureStats
+pub fn counted_capture(c: CaptureStats, packet: PacketFacts) -> CaptureStats
     requires { ⌜ c .«captured_octets» + packet .«captured_octets» < 2 ^ 64 ⌝ }
     ensures { λ r. ⌜ r ≡ countedCapture c packet ⌝ }
 {
@@ -101,7 +101,7 @@ fn counted_capture(c: CaptureStats, packet: PacketFacts) -> CaptureStats
     }
 }
 
-fn counted_network(n: NetworkStats, value: OptU8) -> NetworkStats
+pub fn counted_network(n: NetworkStats, value: OptU8) -> NetworkStats
     ensures { λ r. ⌜ r ≡ countedNetwork n value ⌝ }
 {
     let ttl = n.ttl;

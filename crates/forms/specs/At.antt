@@ -8,7 +8,7 @@ use native.Mathlib.Numerals.{add-one}
 use lib.ListN.{length, length-append, length-drop, take, drop, getD, take-append-drop, drop-of-length-le}
 use lib.Seq.{drop-cons, drop-append-seam}
 use Rattle.forms.specs.Form.{Form, Read, got, short, refused, andThen, andThen-got, only, only-reads, one, ok, one-of-byte, over, over-reads, follow, follow-reads, pair, with-first, first-agrees, pair-is, with-first-is, byte, byte-reads, byte-ends, Alt, has, find, choice, choice-reads}
-use Rattle.forms.specs.Number.{readGroups, step, raise, within, is-within, step-last, step-more, step-out}
+use Rattle.forms.specs.Number.{number, number-reads, readGroups, step, raise, within, is-within, step-last, step-more, step-out}
 use lib.Dec.{ltb, leb}
 use borrow.Author.Tests.{lt-leb, lt-ltb}
 
@@ -193,3 +193,11 @@ module _ (s : List ℕ) (at b least most : ℕ) where
   pub more-at : at < length s → b ≡ getD s at 0 → b < 256 → least ≤ b → b ≤ most → 128 ≤ b
       → raise b (placed (readGroups 1 ((most - b) / 128 + 1)) s (at + 1)) ≡ placed (readGroups least most) s at
   more-at h e w l m large = sym (step-more least most b (at + 1) more (is-within least most b w l m) large) ∙ groups-byte h e
+
+-- a number whose first byte is below 128: it is that byte, or refused where the byte is above the bound
+module _ (s : List ℕ) (at b most : ℕ) (inside : at < length s) (is : b ≡ getD s at 0) where
+  pub one-high : most < b → refused ≡ readAt (number most) s at
+  one-high h = rw number-reads (high-at s at b 0 most inside is h)
+
+  pub one-byte : b ≤ most → b < 128 → got b (at + 1) ≡ readAt (number most) s at
+  one-byte h small = rw number-reads (last-at s at b 0 most inside is (omega arith) (omega arith) h small)

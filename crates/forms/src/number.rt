@@ -23,9 +23,9 @@ pub fn wide(x: u8) -> u64
     x as u64
 }
 
-// The number at `at`, at most `most`. What is read so far is `value`; the groups still to come count `scale` each and make a
-// number of at least `least`, which only the shortest form keeps, and at most `room`.
-pub fn read_number(s: &[u8], at: usize, most: u64) -> NumberAt
+// The number at `at`, at most `most`, group after group. What is read so far is `value`; the groups still to come count `scale`
+// each and make a number of at least `least`, which only the shortest form keeps, and at most `room`.
+fn read_groups(s: &[u8], at: usize, most: u64) -> NumberAt
     ensures { λ r. ⌜ numberAt r ≡ readAt (number most) (now (s .entry)) at ⌝ }
 {
     let mut i = at;
@@ -51,6 +51,22 @@ pub fn read_number(s: &[u8], at: usize, most: u64) -> NumberAt
         i += 1;
     }
     NumberAt::Short
+}
+
+// The number at `at`, at most `most`. Most numbers are one byte, below 128: those take no loop.
+pub fn read_number(s: &[u8], at: usize, most: u64) -> NumberAt
+    ensures { λ r. ⌜ numberAt r ≡ readAt (number most) (now (s .entry)) at ⌝ }
+{
+    if at < s.len() {
+        let b = wide(s[at]);
+        if b < 128 {
+            if most < b {
+                return NumberAt::Refused;
+            }
+            return NumberAt::Value(b, at + 1);
+        }
+    }
+    read_groups(s, at, most)
 }
 
 // How many bytes a number takes: one for each seven bits up to its highest set bit.

@@ -1,19 +1,21 @@
 -- The laws of `specs/Index.antt` and `specs/Reversed.antt`, for any hash. Assumes nothing.
 use mathlib.Core.Path.{_≡_, refl, sym, ap, _∙_, subst}
 use mathlib.Core.Logic.{⊎-elim}
-use mathlib.Core.Bool.{Bool, true, false, false≢true}
+use mathlib.Core.Bool.{Bool, true, false, cond, false≢true}
 use mathlib.Core.List.{List, [], _∷_}
-use Prim.Native.Nat.{ℕ, zero, suc, _+_, _≤_, _<_}
+use Prim.Native.Nat.{ℕ, zero, suc, _+_, _-_, _%_, _≤_, _<_}
 use native.Mathlib.Nat.{eq-or-lt-of-le}
 use native.Mathlib.Numerals.{add-one}
 use native.Mathlib.Omega.{arith}
-use lib.ListN.{length, getD, set, replicate, length-set, length-replicate, getD-replicate, List·getD-eq-default}
-use lib.Seq.{getD-set-same, getD-set-other}
+use lib.Dec.{eqb}
+use lib.ListN.{length, drop, getD, set, replicate, length-set, length-replicate, getD-replicate, List·getD-eq-default}
+use lib.Seq.{getD-drop, getD-set-same, getD-set-other}
+use borrow.Author.Tests.{eq-eqb, ne-eqb}
 use Rattle.memory.proofs.Laws.{less-or, same-or}
 use Rattle.slots.specs.Table.{slot, slots, isUsed, keyOf, holds, firstWhere, NoKeyTwice}
 use Rattle.slots.specs.declared.Found.the-variants.{Nothing}
 use Rattle.slots.proofs.Laws.{first-none, not-found, holds-true, holds-own}
-use Rattle.index.specs.Index.{home, entryOf, homeIn, slotIn, sign, taken, bit, usedIn, Has, Tight, Indexed, Inserted, Forgotten}
+use Rattle.index.specs.Index.{home, entryOf, homeIn, slotIn, tagIn, tagAbsent, hashAbsent, sign, taken, bit, usedIn, Has, Tight, Indexed, Inserted, Forgotten}
 use Rattle.index.specs.Reversed.{Absent, Unreversed}
 
 -- ---- how many places are taken
@@ -219,6 +221,37 @@ stands {index} h i low tight has =
     own : homeIn (getD index (has .place) 0) ≡ home h
     own = entry-home h i (getD index (has .place) 0) low (has .here)
 
+-- ---- no entry has a hash
+
+-- the first entry decides, or is passed
+module _ (tag e : ℕ) (es : List ℕ) where
+  pub absent-empty : e ≡ 0 → tagAbsent tag (e ∷ es) ≡ true
+  unfolding tagAbsent
+  absent-empty empty = ap (λ (t : Bool). cond t true (cond (eqb (tagIn e) tag) false (tagAbsent tag es))) (eq-eqb e 0 empty)
+
+  not-empty : (e ≡ 0 → ⊥) → tagAbsent tag (e ∷ es) ≡ cond (eqb (tagIn e) tag) false (tagAbsent tag es)
+  unfolding tagAbsent
+  not-empty some = ap (λ (t : Bool). cond t true (cond (eqb (tagIn e) tag) false (tagAbsent tag es))) (ne-eqb e 0 some)
+
+  pub absent-tagged : (e ≡ 0 → ⊥) → tagIn e ≡ tag → tagAbsent tag (e ∷ es) ≡ false
+  absent-tagged some own = not-empty some ∙ ap (λ (t : Bool). cond t false (tagAbsent tag es)) (eq-eqb (tagIn e) tag own)
+
+  pub absent-other : (e ≡ 0 → ⊥) → (tagIn e ≡ tag → ⊥) → tagAbsent tag (e ∷ es) ≡ tagAbsent tag es
+  absent-other some other = not-empty some ∙ ap (λ (t : Bool). cond t false (tagAbsent tag es)) (ne-eqb (tagIn e) tag other)
+
+-- where no entry before the next empty place has the tag, none that stands before it has
+never-tagged : (tag : ℕ) (es : List ℕ) (p : ℕ) → tagAbsent tag es ≡ true → ((q : ℕ) → q ≤ p → getD es q 0 ≡ 0 → ⊥)
+    → tagIn (getD es p 0) ≡ tag → ⊥
+never-tagged tag [] p none full own = full p (omega arith) refl
+never-tagged tag (e ∷ es) zero none full own = false≢true (sym (absent-tagged tag e es (full 0 (omega arith)) own) ∙ none)
+never-tagged tag (e ∷ es) (suc p) none full own =
+    let some : e ≡ 0 → ⊥ = full 0 (omega arith) in
+    ⊎-elim (λ (q : tagIn e ≡ tag). false≢true (sym (absent-tagged tag e es some q) ∙ none))
+    (λ other. never-tagged tag es p (sym (absent-other tag e es some other) ∙ none) (λ q before. full (suc q) (omega arith)) own)
+    (same-or (tagIn e) tag)
+
+-- ---- what the index says of the table
+
 module _ {hash : List ℕ → ℕ} {index s : List ℕ} {c : ℕ} where
   -- every used slot has its entry
   pub has-entry : {x : ℕ} → Indexed hash index s c → x < c → isUsed (slot s x) ≡ true → Has index (entryOf (hash (keyOf (slot s x))) x)
@@ -231,12 +264,18 @@ module _ {hash : List ℕ → ℕ} {index s : List ℕ} {c : ℕ} where
       let q : hash (keyOf (slot s k)) ≡ h = ap hash own ∙ sym e in
       stands h k (omega (arith, ix .small)) (ix .tight) (subst (λ (f : ℕ). Has index (entryOf f k)) q (ix .named k low used))
 
-  -- where a hash's home is empty, no slot is used under a key with that hash
-  pub home-empty : {h : ℕ} {key : List ℕ} → Indexed hash index s c → getD index (home h) 0 ≡ 0 → hash key ≡ h → Absent s c key
-  home-empty {h} {key} ix empty e =
+  -- where no entry from a hash's home to the next empty place has it, no slot is used under a key with that hash
+  pub hash-absent : {h : ℕ} {key : List ℕ} → Indexed hash index s c → hashAbsent index h ≡ true → hash key ≡ h → Absent s c key
+  hash-absent {h} {key} ix none e =
       absent-unless s c key λ k low used own.
       let st = key-stands h key k ix (sym e) low used own in
-      st .full (home h) (omega arith) (st .behind) empty
+      let p : ℕ = st .place - home h in
+      let at : home h + p ≡ st .place = omega (arith, st .behind) in
+      let here : getD (drop (home h) index) p 0 ≡ entryOf h k =
+      getD-drop (home h) index p 0 ∙ ap (λ (q : ℕ). getD index q 0) at ∙ st .here in
+      never-tagged (h % 524288) (drop (home h) index) p none
+      (λ q before z. st .full (home h + q) (omega arith) (omega arith) (sym (getD-drop (home h) index q 0) ∙ z))
+      (omega (arith, ix .small))
 
   -- there is room for one slot more
   pub room-to-insert : Indexed hash index s c → taken index ≤ 8192

@@ -1,4 +1,5 @@
 pub mod Laws
+pub mod Agree
 pub mod Walk
 pub mod Look
 pub mod Shift

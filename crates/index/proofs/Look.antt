@@ -1,13 +1,16 @@
--- Looking for the first place that holds a number. Assumes nothing.
-use mathlib.Core.Path.{_≡_, ap, _∙_}
+-- Looking for the first place that holds a number, and for an entry with a tag. Assumes nothing.
+use mathlib.Core.Path.{_≡_, refl, sym, ap, _∙_}
 use mathlib.Core.Logic.{⊎-elim}
-use mathlib.Core.List.{List}
+use mathlib.Core.Bool.{true, false}
+use mathlib.Core.List.{List, _∷_}
 use Prim.Native.Nat.{ℕ, _+_, _≤_, _<_}
+use native.Mathlib.Numerals.{add-one}
 use native.Mathlib.Omega.{arith}
-use lib.ListN.{length, getD, set}
+use lib.ListN.{length, drop, getD, set, drop-of-length-le}
+use lib.Seq.{drop-cons}
 use Rattle.memory.proofs.Laws.{less-or}
-use Rattle.index.specs.Index.{taken, Inserted, FirstPlace}
-use Rattle.index.proofs.Laws.{taken-all}
+use Rattle.index.specs.Index.{tagIn, tagAbsent, taken, Inserted, FirstPlace}
+use Rattle.index.proofs.Laws.{absent-empty, absent-tagged, absent-other, taken-all}
 
 -- v stands at none of the places from `from` to before `place`
 pub record Sought (index : List ℕ) (from v place : ℕ) : Type 0 where
@@ -70,3 +73,31 @@ look-ends {index} {from} {place} v e q looked free =
       full = looked .sought .passed;
       changed = ap (set index place) q;
     }
+
+-- whether an entry from `from` on has the tag is decided from `place` on
+pub record Scanned (index : List ℕ) (tag from place : ℕ) : Type 0 where
+  pub within : place ≤ 16384
+  pub same : tagAbsent tag (drop from index) ≡ tagAbsent tag (drop place index)
+
+pub scan-begins : (index : List ℕ) (tag from : ℕ) → from ≤ 16384 → Scanned index tag from from
+scan-begins index tag from h = record { within = h; same = refl }
+
+module _ {index : List ℕ} {tag from place : ℕ} (size : length index ≡ 16384) (scanned : Scanned index tag from place) where
+  scan-next : place < 16384 → tagAbsent tag (drop from index) ≡ tagAbsent tag (getD index place 0 ∷ drop (place + 1) index)
+  scan-next more =
+      scanned .same
+      ∙ ap (tagAbsent tag) (drop-cons index place 0 (omega arith) ∙ ap (λ (k : ℕ). getD index place 0 ∷ drop k index) (sym (add-one place)))
+
+  pub scan-empty : place < 16384 → getD index place 0 ≡ 0 → true ≡ tagAbsent tag (drop from index)
+  scan-empty more empty = sym (scan-next more ∙ absent-empty tag _ _ empty)
+
+  pub scan-hits : place < 16384 → (getD index place 0 ≡ 0 → ⊥) → tagIn (getD index place 0) ≡ tag → false ≡ tagAbsent tag (drop from index)
+  scan-hits more some own = sym (scan-next more ∙ absent-tagged tag _ _ some own)
+
+  pub scan-goes-on : place < 16384 → (getD index place 0 ≡ 0 → ⊥) → (tagIn (getD index place 0) ≡ tag → ⊥)
+      → Scanned index tag from (place + 1)
+  scan-goes-on more some other = record { within = omega arith; same = scan-next more ∙ absent-other tag _ _ some other }
+
+  pub scan-ends : 16384 ≤ place → true ≡ tagAbsent tag (drop from index)
+  unfolding tagAbsent
+  scan-ends end = sym (scanned .same ∙ ap (tagAbsent tag) (drop-of-length-le index {i = place} (omega arith)))

@@ -1,18 +1,20 @@
 -- The search for a key from its home on. Assumes nothing.
 use mathlib.Core.Path.{_≡_, refl, sym, ap, _∙_, subst}
 use mathlib.Core.Logic.{⊎-elim}
-use mathlib.Core.Bool.{true, false, false≢true}
+use mathlib.Core.Bool.{Bool, true, false, false≢true}
 use mathlib.Core.List.{List}
 use Prim.Native.Nat.{ℕ, _+_, _-_, _*_, _/_, _%_, _≤_, _<_}
 use native.Mathlib.Omega.{arith}
 use lib.ListN.{length, getD, List·getD-eq-default}
-use Rattle.memory.proofs.Laws.{less-or}
-use Rattle.slots.specs.Table.{slot, slots, holds, firstWhere, NoKeyTwice}
+use Rattle.memory.specs.Bytes.{num, part}
+use Rattle.memory.proofs.Laws.{part-part, less-or}
+use Rattle.slots.specs.Table.{slot, slots, keyOf, holds, firstWhere, NoKeyTwice}
 use Rattle.slots.specs.declared.Found.the-variants.{At, Nothing}
-use Rattle.slots.proofs.Laws.{first-here, holds-true, not-used, not-long, not-same, matches}
+use Rattle.slots.proofs.Laws.{first-here, holds-true, key-part, not-used, not-long, not-same, matches}
 use Rattle.index.specs.Index.{home, entryOf, slotIn, Indexed}
 use Rattle.index.specs.Reversed.{Absent}
 use Rattle.index.proofs.Laws.{used-holds, absent-unless, absent-not-found, twice, key-stands}
+use Rattle.index.proofs.Agree.{Agrees}
 
 -- no slot whose entry under the hash h stands at place p has the key
 pub record Passed (index s key : List ℕ) (h p : ℕ) : Type 0 where
@@ -55,6 +57,14 @@ turn {hash} {index} {s} {c} {key} {h} {place} fits ix more walked full byte =
 
 -- ---- the ways on
 
+-- a slot with another key does not hold this one
+not-holds : (key b : List ℕ) → (keyOf b ≡ key → ⊥) → holds key b ≡ false
+not-holds key b other = go (holds key b) refl
+  where
+    go : (t : Bool) → holds key b ≡ t → holds key b ≡ false
+    go false e = e
+    go true e = absurd (other (holds-true key b e .1))
+
 -- another hash's entry
 pub pass-tag : {index s key : List ℕ} {h place : ℕ} → place < 16384 → Walked index s key h place
     → ((getD index place 0 - 1) / 8192 ≡ h % 524288 → ⊥) → Walked index s key h (place + 1)
@@ -80,16 +90,27 @@ module _ {index s : List ℕ} {c : ℕ} {key : List ℕ} {h place : ℕ} (t : Tu
       → (getD s (256 + 624 * slotIn (getD index place 0) + 2 + k) 0 ≡ getD key k 0 → ⊥) → Walked index s key h (m + 1)
   pass-byte m k same low long n = pass-other m same (not-same _ _ (t .fits) (t .byte) _ k low long n)
 
+  -- a key with another word of eight bytes
+  pub pass-word : (m k : ℕ) → m ≡ place → 8 * k + 8 ≤ length key → getD s (256 + 624 * slotIn (getD index place 0) + 1) 0 ≡ length key
+      → (num (part s (256 + 624 * slotIn (getD index place 0) + 2 + 8 * k) 8) ≡ num (part key (8 * k) 8) → ⊥) → Walked index s key h (m + 1)
+  pass-word m k same low long n =
+      pass-other m same
+      (not-holds _ _ λ own.
+      n
+      (ap num
+      (sym (part-part s (256 + 624 * slotIn (getD index place 0) + 2) (length key) (8 * k) 8 low (omega (arith, t .fits, t .byte)))
+      ∙ ap (λ (l : List ℕ). part l (8 * k) 8) (sym (key-part s _ (length key) (t .fits) (omega (arith, t .byte)) long) ∙ own))))
+
   -- ---- the ways out
 
   -- the slot is used under the key: where no key stands twice, it is the first
   pub walk-hits : NoKeyTwice s c → getD s (256 + 624 * slotIn (getD index place 0)) 0 ≡ 1
       → getD s (256 + 624 * slotIn (getD index place 0) + 1) 0 ≡ length key
-      → ((k : ℕ) → k < length key → getD s (256 + 624 * slotIn (getD index place 0) + 2 + k) 0 ≡ getD key k 0)
+      → Agrees s (256 + 624 * slotIn (getD index place 0) + 2) key (length key)
       → At (slotIn (getD index place 0)) ≡ firstWhere (holds key) 0 (slots s c)
   unfolding Absent
   walk-hits once used long bytes =
-      let hit : holds key (slot s (slotIn (getD index place 0))) ≡ true = matches _ _ (t .fits) (t .byte) _ used long bytes in
+      let hit : holds key (slot s (slotIn (getD index place 0))) ≡ true = matches _ _ (t .fits) (t .byte) _ used long (bytes .same) in
       let w = holds-true key (slot s (slotIn (getD index place 0))) hit in
       sym (first-here s (holds key) c _ (t .low) hit (subst (Absent s (slotIn (getD index place 0))) (w .1) (twice s _ once (t .low) (w .0))))
 

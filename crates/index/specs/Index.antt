@@ -2,9 +2,10 @@
 -- the slot. Places 0 to 8191 are homes; a search goes forward from its home and never wraps.
 use Prim.Native.Nat.{ℕ, zero, suc, _+_, _-_, _*_, _/_, _%_, _≤_, _<_}
 use mathlib.Core.Path.{_≡_}
-use mathlib.Core.Bool.{Bool, true, false}
+use mathlib.Core.Bool.{Bool, true, false, cond}
 use mathlib.Core.List.{List, [], _∷_}
-use lib.ListN.{length, getD, set}
+use lib.Dec.{eqb}
+use lib.ListN.{length, drop, getD, set}
 use Rattle.slots.specs.Table.{slot, isUsed, keyOf}
 
 -- ---- an entry
@@ -24,6 +25,21 @@ homeIn e = (e - 1) / 8192 % 8192
 -- the slot that an entry names
 abbrev pub slotIn : ℕ → ℕ
 slotIn e = (e - 1) % 8192
+
+-- the 19 bits of a hash that an entry holds
+abbrev pub tagIn : ℕ → ℕ
+tagIn e = (e - 1) / 8192
+
+-- ---- no entry has a hash
+
+-- no entry before the next empty place has the tag
+unfoldable pub tagAbsent : ℕ → List ℕ → Bool
+tagAbsent tag [] = true
+tagAbsent tag (e ∷ es) = cond (eqb e 0) true (cond (eqb (tagIn e) tag) false (tagAbsent tag es))
+
+-- no entry from the hash's home to the next empty place has the hash
+abbrev pub hashAbsent : List ℕ → ℕ → Bool
+hashAbsent index hash = tagAbsent (hash % 524288) (drop (home hash) index)
 
 -- ---- how many
 

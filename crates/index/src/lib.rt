@@ -4,11 +4,10 @@
 use slots::Found;
 ghost use mathlib.Core.Path.{_≡_};
 ghost use Prim.Native.Nat.{_+_, _*_, _≤_, _<_};
-ghost use lib.Dec.{eqb};
-ghost use lib.ListN.{length, getD};
+ghost use lib.ListN.{length};
 ghost use Rattle.slots.specs.Table.{slots, holds, firstWhere, NoKeyTwice};
 ghost use Rattle.index.specs.Hash.{hashOf};
-ghost use Rattle.index.specs.Index.{home, entryOf, homeIn, taken, Has, Tight, Indexed, Inserted, Forgotten, FirstPlace};
+ghost use Rattle.index.specs.Index.{home, entryOf, homeIn, hashAbsent, taken, Has, Tight, Indexed, Inserted, Forgotten, FirstPlace};
 
 // The used slot with this key.
 pub fn find(index: &[u32], state: &[u8], capacity: usize, key: &[u8], hash: u64) -> Found
@@ -36,7 +35,14 @@ pub fn find(index: &[u32], state: &[u8], capacity: usize, key: &[u8], hash: u64)
         if state[base + 1] as usize != key.len() {
             continue 'slots;
         }
-        for k in 0..key.len() {
+        let words = key.len() / 8;
+        // Eight bytes at a time, then what is left.
+        for k in 0..words {
+            if memory::load_u64(state, base + 2 + 8 * k) != memory::load_u64(key, 8 * k) {
+                continue 'slots;
+            }
+        }
+        for k in 8 * words..key.len() {
             if state[base + 2 + k] != key[k] {
                 continue 'slots;
             }
@@ -46,12 +52,22 @@ pub fn find(index: &[u32], state: &[u8], capacity: usize, key: &[u8], hash: u64)
     Found::Nothing
 }
 
-// Whether the key's home place is empty: then no slot is used under a key with this hash.
-pub fn home_is_empty(index: &[u32], hash: u64) -> bool
+// Whether no entry from the hash's home to the next empty place has the hash: then no slot is used under a key with it.
+pub fn is_absent(index: &[u32], hash: u64) -> bool
     requires { ⌜ length (now index) ≡ 16384 ⌝ }
-    ensures { λ r. ⌜ r ≡ eqb (getD (now (index .entry)) (home hash) 0) 0 ⌝ }
+    ensures { λ r. ⌜ r ≡ hashAbsent (now (index .entry)) hash ⌝ }
 {
-    index[(hash % 8192) as usize] == 0
+    let tag = hash % 524288;
+    for place in (hash % 8192) as usize..16384 {
+        let entry = index[place] as u64;
+        if entry == 0 {
+            return true;
+        }
+        if (entry - 1) / 8192 == tag {
+            return false;
+        }
+    }
+    true
 }
 
 // The entry of slot i under a key with this hash.

@@ -2,21 +2,21 @@
 use mathlib.Core.Path.{_≡_, refl, sym, ap, _∙_}
 use mathlib.Core.Logic.{⊎-elim}
 use mathlib.Core.List.{List, [], _∷_, _++_, append-nil, append-assoc}
-use Prim.Native.Nat.{ℕ, zero, suc, _+_, _*_, _^_, _≤_, _<_}
+use Prim.Native.Nat.{ℕ, zero, suc, _+_, _*_, _/_, _%_, _^_, _≤_, _<_}
 use native.Mathlib.Numerals.{add-one}
-use native.Mathlib.Nat.{add-zero}
+use native.Mathlib.Nat.{add-zero, zero-add, suc-add}
 use native.Mathlib.Omega.{arith}
 use lib.ListN.{length, take, drop, getD, set, length-append, length-set, take-append-drop}
-use lib.Seq.{take-suc, take-all, length-take-le, ext-getD, getD-set-same, getD-set-other, take-at, drop-append-add}
+use lib.Seq.{take-suc, take-all, length-take-le, ext-getD, getD-set-same, getD-set-other, take-at, take-add, drop-drop, drop-append-add}
 use Rattle.memory.specs.Bytes.{num, le, part, patch, bytesOf, wordsAt}
-use Rattle.memory.proofs.Laws.{length-le, num-le, length-patch, part-part, part-patched, patch-join, less-or}
+use Rattle.memory.proofs.Laws.{length-part, getD-part, length-le, num-le, length-patch, part-part, part-patched, patch-join, less-or}
 
 pub length-bytes : (ws : List ℕ) → length (bytesOf ws) ≡ 8 * length ws
 unfolding bytesOf
 length-bytes [] = refl
 length-bytes (w ∷ ws) = length-append (le 8 w) (bytesOf ws) ∙ omega (arith, length-le 8 w, length-bytes ws)
 
-bytes-append : (xs ys : List ℕ) → bytesOf (xs ++ ys) ≡ bytesOf xs ++ bytesOf ys
+pub bytes-append : (xs ys : List ℕ) → bytesOf (xs ++ ys) ≡ bytesOf xs ++ bytesOf ys
 unfolding bytesOf
 bytes-append [] ys = refl
 bytes-append (x ∷ xs) ys = ap (λ (l : List ℕ). le 8 x ++ l) (bytes-append xs ys) ∙ sym (append-assoc (le 8 x) (bytesOf xs) (bytesOf ys))
@@ -60,6 +60,45 @@ words-back s at ws fits small =
     ∙ ap (λ (l : List ℕ). part l (8 * k) 8) (part-patched s at bs long (8 * n) (length-bytes ws))
     ∙ part-bytes ws k h′)
     ∙ num-le 8 (getD ws k 0) (small k h′)
+
+-- ---- a run of words, and its bytes where they lie
+
+-- the first words of a run, and those behind them
+pub words-front : (s : List ℕ) (at m n : ℕ) → take m (wordsAt s at (m + n)) ≡ wordsAt s at m
+unfolding wordsAt
+words-front s at zero n = refl
+words-front s at (suc m) n =
+    ap (λ (k : ℕ). take (suc m) (wordsAt s at k)) (suc-add m n) ∙ ap (λ (l : List ℕ). num (part s at 8) ∷ l) (words-front s (at + 8) m n)
+
+pub words-behind : (s : List ℕ) (at m n : ℕ) → drop m (wordsAt s at (m + n)) ≡ wordsAt s (at + 8 * m) n
+unfolding wordsAt
+words-behind s at zero n = ap (wordsAt s at) (zero-add n) ∙ ap (λ (a : ℕ). wordsAt s a n) (sym (add-zero at))
+words-behind s at (suc m) n =
+    let e : at + 8 + 8 * m ≡ at + 8 * suc m = omega arith in
+    ap (λ (k : ℕ). drop (suc m) (wordsAt s at k)) (suc-add m n) ∙ words-behind s (at + 8) m n ∙ ap (λ (a : ℕ). wordsAt s a n) e
+
+-- bytes are those of the number that they stand for
+le-num : (bs : List ℕ) → ((k : ℕ) → k < length bs → getD bs k 0 < 256) → le (length bs) (num bs) ≡ bs
+unfolding le num
+le-num [] small = refl
+le-num (b ∷ bs) small =
+    let low : (b + 256 * num bs) % 256 ≡ b = omega (arith, small 0 (omega arith)) in
+    let high : (b + 256 * num bs) / 256 ≡ num bs = omega (arith, small 0 (omega arith)) in
+    (λ z. low z ∷ le (length bs) (high z)) ∙ ap (λ (l : List ℕ). b ∷ l) (le-num bs (λ k h. small (suc k) (omega arith)))
+
+-- words that were loaded have the bytes that they were loaded from
+pub bytes-back : (s : List ℕ) → ((k : ℕ) → getD s k 0 < 256) → (n at : ℕ) → at + 8 * n ≤ length s → bytesOf (wordsAt s at n) ≡ part s at (8 * n)
+unfolding bytesOf wordsAt part
+bytes-back s small zero at h = refl
+bytes-back s small (suc n) at h =
+    let long : length (part s at 8) ≡ 8 = length-part s at 8 (omega arith) in
+    let bytes : (k : ℕ) → k < length (part s at 8) → getD (part s at 8) k 0 < 256 =
+    λ k l. omega (arith, getD-part s at 8 k (omega arith), small (at + k)) in
+    let here : le 8 (num (part s at 8)) ≡ part s at 8 = ap (λ (m : ℕ). le m (num (part s at 8))) (sym long) ∙ le-num (part s at 8) bytes in
+    let e : 8 + 8 * n ≡ 8 * suc n = omega arith in
+    (λ z. here z ++ bytes-back s small n (at + 8) (omega arith) z)
+    ∙ ap (λ (l : List ℕ). take 8 (drop at s) ++ take (8 * n) l) (sym (drop-drop 8 at s))
+    ∙ sym (take-add 8 (8 * n) (drop at s)) ∙ ap (part s at) e
 
 -- ---- the loops
 

@@ -5,3 +5,5 @@ pub mod Taking
 pub mod Performing
 pub mod Carrying
 pub mod Done
+pub mod Quiet
+pub mod Counted

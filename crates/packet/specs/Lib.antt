@@ -2,3 +2,4 @@ pub mod Step
 pub mod Meant
 pub mod Handed
 pub mod Doing
+pub mod Steady

@@ -2,6 +2,7 @@
 // nothing is done.
 pub mod perform;
 pub mod size;
+pub mod steady;
 
 use crate::perform::carry_out;
 use decide::decide::decide;

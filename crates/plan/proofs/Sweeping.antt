@@ -197,7 +197,7 @@ module _ (c T limit : ℕ) (s tree listed : List ℕ) (timed : T ≡ 0 → ⊥) 
       (all-more (Leaving c (goes T limit) (view c s .table) tree)
       (λ i. rankOf (view c s .table) i ≡ byEnd engine (flowIn (slotOf (view c s .table) i))) own-rank listed (p .slots)) (p .ordered))
 
-  planned : Planned c T (goes T limit) (view c s .table) tree listed
+  pub planned : Planned c T (goes T limit) (view c s .table) tree listed
   planned = record { names = p .names; slots = p .slots; once = p .once; all = all-listed; flows = listed-flows }
 
 pub loop-ends : (c T limit : ℕ) (s₀ l₀ : List ℕ) → SweepAsked c T limit s₀ l₀ → (s l : List ℕ) (n i : ℕ) → Looping c T limit s₀ l₀ s l n i → c ≤ i

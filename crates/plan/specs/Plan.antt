@@ -1,11 +1,12 @@
 -- What a sweep and a drain will hand out, decided before anything is done: a list of slots in the order of their records. A sweep's
 -- plan changes the queue alone, which then no longer names the listed slots; a drain's plan changes nothing.
-use Prim.Native.Nat.{ℕ, _+_, _*_, _≤_, _<_}
+use Prim.Native.Nat.{ℕ, _+_, _*_, _-_, _≤_, _<_}
 use mathlib.Core.Path.{_≡_}
 use mathlib.Core.Bool.{Bool, true}
 use mathlib.Core.List.{List, []}
 use lib.ListN.{length}
 use Rattle.queue.specs.Tree.{node, never}
+use Rattle.queue.specs.Tree as Tree
 use Rattle.slots.specs.Table.{isUsed}
 use Rattle.table.specs.View.{View, view, slotOf}
 use Rattle.table.specs.Due.{dueOf}
@@ -57,6 +58,18 @@ pub record PlanAsked (c T L : ℕ) (s leaving : List ℕ) : Type 0 where
   pub wide : (T ≡ 0 → ⊥) → 2 ≤ L
   pub flows : SoundFlows s c
   pub names : NamesAllBut c T (view c s .table) (view c s .tree) []
+
+-- ## Nothing to plan
+
+-- no entry of the queue is due by clock w: each lies behind w − L; with timeout 0, or before L, none is
+abbrev pub NothingDue : (c T L w : ℕ) (tree : List ℕ) → Type 0
+NothingDue c T L w tree = (T ≡ 0 → ⊥) → L ≤ w → (i : ℕ) → i < c → w - L < dueOf c tree i
+
+-- a queue in order
+pub record DueAsked (c : ℕ) (s : List ℕ) : Type 0 where
+  pub size : 256 + 640 * c ≤ length s
+  pub some : 0 < c
+  pub sound : Tree.Sound (view c s .tree) c
 
 -- ## A drain's plan
 

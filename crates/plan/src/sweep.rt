@@ -5,8 +5,9 @@ use flow::time::Nanos;
 ghost use mathlib.Core.Path.{_≡_};
 ghost use Prim.Native.Nat.{_+_, _≤_, _<_};
 ghost use lib.ListN.{length, take};
+ghost use Rattle.memory.specs.Decides.{Decides};
 ghost use Rattle.table.specs.View.{view};
-ghost use Rattle.plan.specs.Plan.{leavesBy, PlanAsked, PlanMade};
+ghost use Rattle.plan.specs.Plan.{leavesBy, PlanAsked, PlanMade, DueAsked, NothingDue};
 ghost use Rattle.plan.specs.Steps.{rankAt, PlaceAsked, PlaceFor, putAt, goes, OneAsked, Dealt, SweepAsked};
 
 // Where slot i belongs in the first n of the list, looked for from the back.
@@ -108,4 +109,20 @@ pub fn plan_at(
         return 0;
     }
     plan_sweep(state, capacity, timeout.0, clock.0 - lateness.0, leaving)
+}
+
+// Whether the queue has no entry that is due by the clock: then no flow leaves, and there is nothing to plan.
+pub fn nothing_due(state: &[u8], capacity: usize, idle: Idle, clock: Nanos) -> bool
+    requires { ⌜ DueAsked capacity (now state) ⌝ }
+    ensures { λ r. ⌜ Decides r (NothingDue capacity (idle .timeout .0) (idle .lateness .0) (clock .0) (view capacity (now (state .entry)) .tree)) ⌝ }
+{
+    let timeout = idle.timeout;
+    let lateness = idle.lateness;
+    if timeout.0 == 0 {
+        return true;
+    }
+    if clock.0 < lateness.0 {
+        return true;
+    }
+    table::next_due(state, capacity, clock.0 - lateness.0) == capacity
 }

@@ -13,7 +13,7 @@ use Rattle.memory.specs.Decides.{Decides}
 use Rattle.memory.proofs.Laws.{less-or}
 use Rattle.slots.specs.Table.{slot, keyOf, isUsed, NoKeyTwice}
 use Rattle.slots.proofs.Laws.{used-yes, used-no}
-use Rattle.index.specs.Index.{Indexed, Inserted, home, entryOf}
+use Rattle.index.specs.Index.{Indexed, Inserted, home, entryOf, hashAbsent, taken}
 use Rattle.index.specs.Hash.{keyFrom, hashOf, key-from}
 use Rattle.index.proofs.Laws.{empty-indexed, not-used-more, used-more, once-more, twice, unreversed-more, unreversed-absent}
 use Rattle.queue.specs.Tree as Tree
@@ -31,7 +31,8 @@ use Rattle.state.specs.State.{headerIn, capacityIn, SoundHeader, turned,
 use Rattle.state.specs.Free.{FreeSlots, FreeRoom, pushed, free-begins, free-used, free-unused}
 use Rattle.state.specs.Ready.{Ready}
 use Rattle.state.specs.HeaderTest.{soundHeader, header-yes, header-no}
-use Rattle.state.specs.SlotTest.{wholeKey, whole-yes, whole-no, WordsTested, Alone, KeyAdded, Adding, turned-twice, one-way-turned}
+use Rattle.state.specs.SlotTest.{wholeKey, whole-yes, whole-no, HashSpelt, WordsTested, Alone, KeyAdded, Adding, turned-twice, one-way-turned}
+use Rattle.state.specs.SlotTest.{adding-room, added-absent}
 
 -- ## One used slot
 
@@ -121,6 +122,24 @@ used-adding s i index bytes k ask lies spelt =
       in-range = w .0;
       own = w .1 ∙ lies;
     }
+
+-- the ways out of the test of a used slot whose key has a hash that the index does not have
+module _ (s : List ℕ) (i h : ℕ) (index : List ℕ) (ask : UsedAsked s i index) (own : HashSpelt (slot s i) h) where
+  adding : Adding s i (own .own-key) index
+  adding = used-adding s i index (keyOf (slot s i)) (own .own-key) ask refl (own .spelt)
+
+  pub new-room : (length index ≡ 16384) × (taken index ≤ 8192) × (i < 4096)
+  new-room = adding-room s i (own .own-key) index adding h (own .hash)
+
+  module _ (t : Bool) (tested : WordsTested (wordsIn (slot s i)) t) where
+    pub new-unsound : t ≡ false → UsedChecked s i false index index
+    new-unsound = no-record s i (keyOf (slot s i)) refl index (own .own-key) (own .spelt) t tested
+
+    pub new-checked : t ≡ true → hashAbsent index h ≡ true → (index′ : List ℕ) → Inserted (home h) (entryOf h i) index index′
+        → UsedChecked s i true index index′
+    new-checked e absent index′ put =
+        key-checked s i (keyOf (slot s i)) refl index (own .own-key) (own .spelt) t tested e true index′
+        (added-absent s i (own .own-key) index adding h (own .hash) true (sym absent) refl index′ put)
 
 -- ## One slot more
 

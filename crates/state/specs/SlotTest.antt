@@ -15,16 +15,16 @@ use Rattle.forms.specs.Lone.{Answer, value, refusal, readOne}
 use Rattle.forms.specs.Length.{Sized}
 use Rattle.forms.specs.Put.{Put, put-front}
 use Rattle.forms.specs.declared.place.Place.{Place}
-use Rattle.forms.specs.declared.place.Place.the-variants.{At}
+use Rattle.forms.specs.declared.place.Place.the-variants.{At, Full}
 use Rattle.slots.specs.Table.{slot, slots, keyOf, holds, firstWhere, NoKeyTwice}
 use Rattle.slots.specs.declared.Found.{Found}
 use Rattle.slots.specs.declared.Found.the-variants as Found
-use Rattle.index.specs.Index.{Indexed, Inserted, home, entryOf, taken}
+use Rattle.index.specs.Index.{Indexed, Inserted, home, entryOf, hashAbsent, taken}
 use Rattle.index.specs.Hash.{hashOf, key-from, hash-of, hash-reversed}
 use Rattle.index.specs.Reversed.{Absent}
-use Rattle.index.proofs.Laws.{home-empty, room-to-insert, absent-not-found, not-found-absent}
-use Rattle.slots.proofs.Laws.{used-yes, used-no}
-use Rattle.memory.specs.Bytes.{wordsAt}
+use Rattle.index.proofs.Laws.{hash-absent, room-to-insert, absent-not-found, not-found-absent}
+use Rattle.slots.proofs.Laws.{used-yes, used-no, key-part}
+use Rattle.memory.specs.Bytes.{part, wordsAt}
 use Rattle.table.specs.Due.{endOf}
 use Rattle.words.specs.Words.{recordOf, wordsFit}
 use Rattle.flow.specs.Sound.{soundAside}
@@ -33,11 +33,18 @@ use Rattle.key.specs.Endpoints.{hasReverseDirection}
 use Rattle.key.specs.Key.{reversedKey, reversed-twice}
 use Rattle.key.specs.Shard.{shardOf}
 use Rattle.key.specs.KeyForm.{key, keyRead}
-use Rattle.key.specs.KeyTheorems.{KeyInRange, key-read-back, key-was-written}
+use Rattle.key.specs.KeyTheorems.{KeyInRange, key-in-range, key-read-back, key-was-written}
 use Rattle.key.specs.declared.key.FlowKey.{FlowKey}
 use Rattle.key.specs.declared.form.ReadKey.{ReadKey}
 use Rattle.rules.specs.Engine.{keyBytes, isAssociation}
 use Rattle.rules.specs.EngineLaws.{reversed-in-range, engine-keys}
+use Rattle.plain.specs.Plain as Plainly
+use Rattle.plain.specs.Plain.{plainAt}
+use Rattle.plain.specs.Laid.{at-back}
+use Rattle.plain.specs.PlainLaws.{plain-read, plain-hash, plain-bytes}
+use Rattle.plain.specs.declared.Plain.{Plain}
+use Rattle.plain.specs.declared.PlainAt.{PlainAt}
+use Rattle.state.specs.declared.check.PlainHash.{PlainHash}
 use Rattle.state.specs.declared.slot.WholeKey.{WholeKey}
 use Rattle.state.specs.Slot.{wordsIn}
 use Rattle.state.specs.State.{turned, one-way, Queued}
@@ -102,6 +109,38 @@ whole-no bytes k ok e =
     ∙ ap (λ (a : Answer FlowKey). wholeOf a (length (keyBytes k)))
     (ap (readOne 4 key) (sym (append-nil (keyBytes k))) ∙ key-read-back k [] ok)
     ∙ rw (eq-eqb (length (keyBytes k)) (length (keyBytes k)) refl)
+
+-- ## The hash of a slot's key
+
+-- h is the hash of the key that the slot's key bytes spell
+pub record HashSpelt (b : List ℕ) (h : ℕ) : Type 0 where
+  pub own-key : FlowKey
+  pub spelt : wholeKey (keyOf b) ≡ some own-key
+  pub hash : h ≡ shardOf own-key 524288
+
+-- nothing is said of a slot where the answer is Other
+abbrev pub PlainHashed : List ℕ → PlainHash → Type 0
+PlainHashed b (PlainHash.Hash h) = HashSpelt b h
+PlainHashed b PlainHash.Other = Unit {0}
+
+pub hash-told : (b : List ℕ) (r : PlainHash) (h : ℕ) → PlainHashed b r → r ≡ PlainHash.Hash h → HashSpelt b h
+hash-told b r h told e = subst (PlainHashed b) e told
+
+-- a plain key that ends where the slot's key bytes do is what they spell, though its reader may look at what stands behind them
+pub plain-spelt : (s : List ℕ) (i n : ℕ) (p : Plain) → 256 + 624 * i + 624 ≤ length s → n < 256 → getD s (256 + 624 * i + 1) 0 ≡ n
+    → PlainAt.Key p ≡ plainAt s (256 + 624 * i + 2) → p .next ≡ 256 + 624 * i + 2 + n → HashSpelt (slot s i) (p .hash)
+unfolding part
+plain-spelt s i n p fits byte long seen ends =
+    let from = 256 + 624 * i + 2 in
+    let k = Plainly.keyRead s from in
+    let valid = at-back key s from k (p .next) (omega arith) (plain-read s from (sym seen)) .0 in
+    let size : p .next - from ≡ n = omega arith in
+    let bytes : take n (drop from s) ≡ keyBytes k = rw size at (plain-bytes s from (sym seen)) in
+    record {
+      own-key = k;
+      spelt = whole-no (keyOf (slot s i)) k (key-in-range k valid) (sym (key-part s i n fits byte long ∙ bytes));
+      hash = plain-hash s from (sym seen);
+    }
 
 -- ## A slot's record
 
@@ -266,7 +305,18 @@ module _ (s : List ℕ) (i : ℕ) (k : FlowKey) (own : Bool) (first : Denies own
       let one : one-way (keyBytes k) ≡ true = one-way-is k ok ∙ ap not (sym w ∙ t) in
       (λ z. record { own = first .0 e; other = λ q. absurd (false≢true (sym q ∙ one)) }, λ y a. absurd (false≢true y))
 
--- the reversed key's form written at the front
+-- the reversed key's form written at the front: the place behind it is its length
+pub reversed-placed : (k l : FlowKey) (before after : List ℕ) (n : ℕ) (p : Place) → l ≡ reversedKey k → Put before (At 0) (keyBytes l) after p → p ≡ At n
+    → FrontWritten (keyBytes (reversedKey k)) before after n
+reversed-placed k l before after n p e put here =
+    subst (λ (x : FlowKey). FrontWritten (keyBytes x) before after n) e (go (leb (0 + length (keyBytes l)) (length before)) refl (sym here ∙ put .next))
+  where
+    go : (t : Bool) → leb (0 + length (keyBytes l)) (length before) ≡ t → At n ≡ cond t (At (0 + length (keyBytes l))) Full → FrontWritten (keyBytes l) before after n
+    go true h q =
+        let same : n ≡ 0 + length (keyBytes l) = cc in
+        record { length-is = omega arith; front = put-front put (omega (arith, leb-true (0 + length (keyBytes l)) (length before) h)) }
+    go false h q = let z : _≡_ {A = ℕ} 0 1 = cc in absurd (omega arith)
+
 pub reversed-written : (k l : FlowKey) (before after : List ℕ) (r : ℕ) (p : Place) → l ≡ reversedKey k → Sized (keyBytes l) 128 r → 128 ≤ length before
     → Put before (At 0) (keyBytes l) after p → FrontWritten (keyBytes (reversedKey k)) before after r
 reversed-written k l before after r p e sized long put =
@@ -318,16 +368,16 @@ module _ (s : List ℕ) (i : ℕ) (k : FlowKey) (index : List ℕ) (ask : Adding
   put-under : (index′ : List ℕ) → Inserted (home h) (entryOf h i) index index′ → Inserted (home (hashOf (keyBytes k))) (entryOf (hashOf (keyBytes k)) i) index index′
   put-under index′ p = subst (λ (x : ℕ). Inserted (home x) (entryOf x i) index index′) hash-is p
 
-  pub added-at-home : (t : Bool) → t ≡ eqb (getD index (home h) 0) 0 → t ≡ true → (index′ : List ℕ) → Inserted (home h) (entryOf h i) index index′
+  pub added-absent : (t : Bool) → t ≡ hashAbsent index h → t ≡ true → (index′ : List ℕ) → Inserted (home h) (entryOf h i) index index′
       → KeyAdded s i (keyBytes k) true index index′
-  added-at-home t e y index′ p =
-      let empty : getD index (home h) 0 ≡ 0 = eqb-true (getD index (home h) 0) 0 (sym e ∙ y) in
+  added-absent t e y index′ p =
+      let absent : hashAbsent index h ≡ true = sym e ∙ y in
       record {
         yes-alone = λ z. record {
-          own = home-empty (ask .indexed) empty (sym hash-is);
+          own = hash-absent (ask .indexed) absent (sym hash-is);
           other = λ w.
               subst (Absent s i) (sym (turned-is k (ask .in-range)))
-              (home-empty (ask .indexed) empty (sym (turned-hash k h (ask .in-range) hash-is)));
+              (hash-absent (ask .indexed) absent (sym (turned-hash k h (ask .in-range) hash-is)));
         };
         yes-put = λ z. put-under index′ p;
         other = λ z. absurd (false≢true (sym z));

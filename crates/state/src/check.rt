@@ -9,14 +9,59 @@ use crate::slot::entry_is_sound;
 use crate::slot::record_is_sound;
 use crate::slot::whole_key;
 use flow::time::Nanos;
+use plain::PlainAt;
+use plain::plain_at;
 ghost use mathlib.Core.Path.{_≡_};
-ghost use Prim.Native.Nat.{_+_};
+ghost use mathlib.Core.Bool.{true};
+ghost use Prim.Native.Nat.{_+_, _*_, _≤_};
+ghost use lib.ListN.{length};
 ghost use Rattle.memory.specs.Decides.{Decides};
+ghost use Rattle.slots.specs.Table.{slot};
+ghost use Rattle.index.specs.Index.{hashAbsent};
 ghost use Rattle.state.specs.State.{Sound};
+ghost use Rattle.state.specs.SlotTest.{HashSpelt, PlainHashed};
 ghost use Rattle.state.specs.Check.{UsedAsked, UsedChecked, PlaceAsked, PlaceChecked, SlotAsked, SlotsAsked, CheckedTo, CheckAsked, Checked};
 
-// Slot i, which is used: whether its bytes are those of a sound flow that may stand beside those before it.
-fn check_used(state: &[u8], i: usize, index: &mut [u32]) -> bool
+// The hash of a slot's key, where that is a plain one.
+enum PlainHash {
+    Hash(u64),
+    Other,
+}
+
+// Slot i's, read where its key lies: no key is made of the bytes.
+fn plain_hash(state: &[u8], i: usize) -> PlainHash
+    requires { ⌜ 256 + 624 * i + 624 ≤ length (now state) ⌝ }
+    ensures { λ r. ⌜ PlainHashed (slot (now (state .entry)) i) r ⌝ }
+{
+    let base = 256 + 624 * i;
+    let from = base + 2;
+    match plain_at(state, from) {
+        PlainAt::Key(key) => {
+            if key.next == from + state[base + 1] as usize {
+                return PlainHash::Hash(key.hash);
+            }
+            PlainHash::Other
+        }
+        PlainAt::Other => PlainHash::Other,
+    }
+}
+
+// Slot i, which is used, and whose key has a hash that the index does not have: neither the key nor its reverse stands before it.
+fn check_new(state: &[u8], i: usize, hash: u64, index: &mut [u32]) -> bool
+    requires { ⌜ UsedAsked (now state) i (now index) ⌝ }
+    requires { ⌜ HashSpelt (slot (now state) i) hash ⌝ }
+    requires { ⌜ hashAbsent (now index) hash ≡ true ⌝ }
+    ensures { λ r. ⌜ UsedChecked (now (state .entry)) i r (now (index .entry)) (now (index .exit)) ⌝ }
+{
+    if record_is_sound(state, i) {
+        index::insert(index, i, hash);
+        return true;
+    }
+    false
+}
+
+// Slot i, which is used, by its key.
+fn check_any(state: &[u8], i: usize, index: &mut [u32]) -> bool
     requires { ⌜ UsedAsked (now state) i (now index) ⌝ }
     ensures { λ r. ⌜ UsedChecked (now (state .entry)) i r (now (index .entry)) (now (index .exit)) ⌝ }
 {
@@ -27,6 +72,20 @@ fn check_used(state: &[u8], i: usize, index: &mut [u32]) -> bool
         return add_key(state, i, key, index);
     }
     false
+}
+
+// Slot i, which is used: whether its bytes are those of a sound flow that may stand beside those before it. Most keys are plain and
+// most hashes are new, so the key itself is read only where it has to be.
+fn check_used(state: &[u8], i: usize, index: &mut [u32]) -> bool
+    requires { ⌜ UsedAsked (now state) i (now index) ⌝ }
+    ensures { λ r. ⌜ UsedChecked (now (state .entry)) i r (now (index .entry)) (now (index .exit)) ⌝ }
+{
+    if let PlainHash::Hash(hash) = plain_hash(state, i) {
+        if index::is_absent(index, hash) {
+            return check_new(state, i, hash, index);
+        }
+    }
+    check_any(state, i, index)
 }
 
 // Slot i goes into the index or into the list of free slots.

@@ -28,9 +28,11 @@ pub fn write_reversed(bytes: &mut [u8], key: FlowKey) -> usize
     ensures { λ r. ⌜ FrontWritten (keyBytes (reversedKey key)) (now (bytes .entry)) (now (bytes .exit)) r ⌝ }
 {
     let reversed = key.reversed();
-    let n = key_len(reversed);
-    write_key_at(bytes, Place::At(0), reversed);
-    n
+    match write_key_at(bytes, Place::At(0), reversed) {
+        Place::At(n) => n,
+        // Never, since 128 bytes hold every key.
+        Place::Full => key_len(reversed),
+    }
 }
 
 // The first n bytes.
@@ -74,7 +76,7 @@ pub fn add_key(state: &[u8], i: usize, key: FlowKey, index: &mut [u32]) -> bool
     ensures { λ r. ⌜ KeyAdded (now (state .entry)) i (keyBytes key) r (now (index .entry)) (now (index .exit)) ⌝ }
 {
     let hash = key.shard(524_288);
-    if index::home_is_empty(index, hash) {
+    if index::is_absent(index, hash) {
         index::insert(index, i, hash);
         return true;
     }

@@ -27,7 +27,7 @@ words-part s a n b (suc k) h fits =
     words-part s a n (b + 8) k (omega arith) fits ∙ ap (λ (m : ℕ). wordsAt s m k) e in
     cc
 
-words-elsewhere : (s : List ℕ) (at : ℕ) (bs : List ℕ) (a k : ℕ) → at + length bs ≤ length s → at + length bs ≤ a
+pub words-elsewhere : (s : List ℕ) (at : ℕ) (bs : List ℕ) (a k : ℕ) → at + length bs ≤ length s → at + length bs ≤ a
     → wordsAt (patch s at bs) a k ≡ wordsAt s a k
 unfolding wordsAt
 words-elsewhere s at bs a zero fits away = refl
@@ -43,10 +43,13 @@ module _ (s : List ℕ) (i : ℕ) (fits : 256 + 624 * i + 624 ≤ length s) wher
   unfolding slot
   slot-length = length-part s (256 + 624 * i) 624 fits
 
-  -- its words and its end where they lie in the state
-  pub words-at : wordsAt s (256 + 624 * i + 80) 37 ≡ wordsAt (slot s i) 80 37
+  -- its words from word k on, and its end, where they lie in the state
+  run-at : (k n : ℕ) → k + n ≤ 37 → wordsAt s (256 + 624 * i + (80 + 8 * k)) n ≡ wordsAt (slot s i) (80 + 8 * k) n
   unfolding slot
-  words-at = sym (words-part s (256 + 624 * i) 624 80 37 (omega arith) fits)
+  run-at k n h = sym (words-part s (256 + 624 * i) 624 (80 + 8 * k) n (omega arith) fits)
+
+  pub words-at : wordsAt s (256 + 624 * i + 80) 37 ≡ wordsAt (slot s i) 80 37
+  words-at = run-at 0 37 (omega arith)
 
   pub end-at : num (part s (256 + 624 * i + 88) 8) ≡ endOf (slot s i)
   unfolding endOf slot
@@ -57,9 +60,12 @@ pub view-slot-length : (s : List ℕ) (c i : ℕ) → 256 + 640 * c ≤ length s
 view-slot-length s c i size low = ap length (slot-view s c i low) ∙ slot-length s i (omega arith)
 
 -- what was loaded from the state
-pub words-loaded : (s ws : List ℕ) (i n : ℕ) → ws ≡ wordsAt s (256 + 624 * i + 80) n → n ≡ 37 → 256 + 624 * i + 624 ≤ length s
-    → ws ≡ wordsAt (slot s i) 80 37
-words-loaded s ws i n e count fits = e ∙ ap (wordsAt s (256 + 624 * i + 80)) count ∙ words-at s i fits
+pub run-loaded : (s ws : List ℕ) (i k n : ℕ) → ws ≡ wordsAt s (256 + 624 * i + (80 + 8 * k)) n → k + n ≤ 37 → 256 + 624 * i + 624 ≤ length s
+    → ws ≡ wordsAt (slot s i) (80 + 8 * k) n
+run-loaded s ws i k n e count fits = e ∙ run-at s i fits k n count
+
+pub words-loaded : (b ws : List ℕ) (n : ℕ) → ws ≡ wordsAt b 80 n → n ≡ 37 → ws ≡ wordsAt b 80 37
+words-loaded b ws n e count = e ∙ ap (wordsAt b 80) count
 
 -- the end is word 1
 pub end-word : (b : List ℕ) → endOf b ≡ getD (wordsAt b 80 37) 1 0
@@ -96,11 +102,11 @@ module _ (b ws : List ℕ) (long : 376 ≤ length b) (count : length ws ≡ 37) 
     pub stored-end : endOf (patch b 80 (bytesOf ws)) ≡ getD ws 1 0
     stored-end = end-word (patch b 80 (bytesOf ws)) ∙ ap (λ (l : List ℕ). getD l 1 0) stored-words
 
--- the same seen from the state
-pub words-put : (s s′ ws : List ℕ) (c i : ℕ) → 256 + 640 * c ≤ length s → i < c → length ws ≡ 37
-    → s′ ≡ patch s (256 + 624 * i + 80) (bytesOf ws)
-    → view c s′ ≡ withSlot i (patch (slotOf (view c s .table) i) 80 (bytesOf ws)) (view c s)
-words-put s s′ ws c i size low count e = slot-put s s′ c i 80 (bytesOf ws) size low (omega (arith, length-bytes ws)) e
+-- words seen from the state, from word k on
+pub run-put : (s s′ ws : List ℕ) (c i k : ℕ) → 256 + 640 * c ≤ length s → i < c → k + length ws ≤ 37
+    → s′ ≡ patch s (256 + 624 * i + (80 + 8 * k)) (bytesOf ws)
+    → view c s′ ≡ withSlot i (patch (slotOf (view c s .table) i) (80 + 8 * k) (bytesOf ws)) (view c s)
+run-put s s′ ws c i k size low count e = slot-put s s′ c i (80 + 8 * k) (bytesOf ws) size low (omega (arith, length-bytes ws)) e
 
 -- ---- a key was put: `keyed-used` and `keyed-key` of slots/proofs/Laws.antt say what it is
 

@@ -39,6 +39,9 @@ const CLOCK_AT: usize = 40;
 // Where the record lies in a slot.
 const RECORD_AT: usize = 80;
 
+// The length of a word of the record.
+const WORD_BYTES: usize = 8;
+
 // Where the record's end lies in a slot.
 const END_AT: usize = 88;
 
@@ -94,6 +97,17 @@ pub fn free(state: &mut [u8], capacity: usize, i: usize)
     slots::free(state, i);
 }
 
+// Stores words of slot i's record, from word `from` on.
+pub fn store_run(state: &mut [u8], capacity: usize, i: usize, from: usize, ws: &[u64])
+    requires { ⌜ 256 + 640 * capacity ≤ length (now state) ⌝ }
+    requires { ⌜ i < capacity ⌝ }
+    requires { ⌜ from + length (now ws) ≤ 37 ⌝ }
+    ensures { λ _. ⌜ view capacity (now (state .exit)) ≡ withSlot i (patch (slotOf (view capacity (now (state .entry)) .table) i) (80 + 8 * from) (bytesOf (now (ws .entry)))) (view capacity (now (state .entry))) ⌝ }
+{
+    let to = HEADER_BYTES + SLOT_BYTES * i + (RECORD_AT + WORD_BYTES * from);
+    memory::store_words(state, to, ws);
+}
+
 // Stores a record's words in slot i.
 pub fn store_record_words(state: &mut [u8], capacity: usize, i: usize, ws: &[u64])
     requires { ⌜ 256 + 640 * capacity ≤ length (now state) ⌝ }
@@ -101,7 +115,17 @@ pub fn store_record_words(state: &mut [u8], capacity: usize, i: usize, ws: &[u64
     requires { ⌜ length (now ws) ≡ 37 ⌝ }
     ensures { λ _. ⌜ view capacity (now (state .exit)) ≡ withSlot i (patch (slotOf (view capacity (now (state .entry)) .table) i) 80 (bytesOf (now (ws .entry)))) (view capacity (now (state .entry))) ⌝ }
 {
-    memory::store_words(state, HEADER_BYTES + SLOT_BYTES * i + RECORD_AT, ws);
+    store_run(state, capacity, i, 0, ws);
+}
+
+// Words of slot i's record, from word `from` on.
+pub fn load_run(state: &[u8], i: usize, from: usize, ws: &mut [u64])
+    requires { ⌜ from + length (now ws) ≤ 37 ⌝ }
+    requires { ⌜ 256 + 624 * i + 624 ≤ length (now state) ⌝ }
+    ensures { λ _. ⌜ now (ws .exit) ≡ wordsAt (slot (now (state .entry)) i) (80 + 8 * from) (length (now (ws .entry))) ⌝ }
+{
+    let at = HEADER_BYTES + SLOT_BYTES * i + (RECORD_AT + WORD_BYTES * from);
+    memory::load_words(state, at, ws);
 }
 
 // The words of slot i's record.
@@ -110,7 +134,7 @@ pub fn load_record_words(state: &[u8], i: usize, ws: &mut [u64])
     requires { ⌜ 256 + 624 * i + 624 ≤ length (now state) ⌝ }
     ensures { λ _. ⌜ now (ws .exit) ≡ wordsAt (slot (now (state .entry)) i) 80 37 ⌝ }
 {
-    memory::load_words(state, HEADER_BYTES + SLOT_BYTES * i + RECORD_AT, ws);
+    load_run(state, i, 0, ws);
 }
 
 // The time that slot i's flow ends.

@@ -14,6 +14,7 @@ use Rattle.key.specs.KeyForm.{key}
 use Rattle.key.specs.declared.key.FlowKey.{FlowKey}
 use Rattle.flow.specs.declared.record.PacketFacts.{PacketFacts}
 use Rattle.wire.specs.declared.packet.Packet.{Packet}
+use Rattle.wire.specs.declared.packet.FactsAt.{FactsAt}
 use Rattle.wire.specs.declared.packet.PacketAt.{PacketAt}
 use Rattle.wire.specs.declared.packet.ReadPacket.{ReadPacket}
 use Rattle.wire.specs.declared.packet.WrotePacket.{WrotePacket}
@@ -60,6 +61,11 @@ flagsInRange OptU16.Absent = true
 flagsInRange (OptU16.Present mask) = ltb mask 512
 
 -- ---- what the answers of the calls say
+
+abbrev pub factsAt : FactsAt → Read PacketFacts ℕ
+factsAt (FactsAt.Value f next) = got f next
+factsAt FactsAt.Short = short
+factsAt FactsAt.Refused = refused
 
 abbrev pub packetAt : PacketAt → Read Packet ℕ
 packetAt (PacketAt.Value p next) = got p next

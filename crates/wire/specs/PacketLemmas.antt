@@ -5,9 +5,9 @@ use mathlib.Core.List.{List, _++_}
 use mathlib.Core.Bool.{Bool, true, false}
 use native.Mathlib.Omega.{arith}
 use lib.ListN.{length, length-append}
-use Rattle.forms.specs.Form.{got, short, refused, over-writes, pair-writes}
+use Rattle.forms.specs.Form.{Read, got, short, refused, andThen, pair, over-writes, pair-writes}
 use Rattle.forms.specs.Number.{number, numberBytes, number-writes}
-use Rattle.forms.specs.At.{readAt}
+use Rattle.forms.specs.At.{readAt, at-over, at-pair}
 use Rattle.forms.specs.Length.{Sized}
 use Rattle.forms.specs.Optional.{optional8, optional16, number8, number16, optional8-writes, optional16-writes}
 use Rattle.forms.specs.Put.{Put, put-then}
@@ -21,7 +21,7 @@ use Rattle.key.specs.KeyForm.{key, keyAt}
 use Rattle.key.specs.declared.key.FlowKey.{FlowKey}
 use Rattle.key.specs.declared.form.KeyAt.{KeyAt}
 use Rattle.flow.specs.declared.record.PacketFacts.{PacketFacts}
-use Rattle.wire.specs.PacketForm.{top64, top32, facts, packet, flagsInRange, packetAt, packetRead, packetWrote}
+use Rattle.wire.specs.PacketForm.{top64, top32, facts, packet, toPacket, fromPacket, flagsInRange, packetAt, packetRead, packetWrote}
 use Rattle.wire.specs.declared.packet.Packet.{Packet}
 use Rattle.wire.specs.declared.packet.PacketAt.{PacketAt}
 use Rattle.wire.specs.declared.packet.ReadPacket.{ReadPacket}
@@ -53,6 +53,41 @@ pub packet-made : {s : List ℕ} {n₀ n₁ n₂ : Next} {f : PacketFacts} {k : 
     → Taken packet s n₀ (record { facts = f; key = k }) n₂
 unfolding packet
 packet-made p q = over-taken _ _ _ _ (pair-taken p q)
+
+-- a packet is its facts and then its key
+module _ (s : List ℕ) (at : ℕ) where
+  packet-parts : readAt packet s at ≡ andThen (readAt facts s at) (λ f n. andThen (readAt key s n) (λ k m. got (record { facts = f; key = k }) m))
+  unfolding packet
+  packet-parts = at-over toPacket fromPacket (pair facts key) (λ x v. refl) s at ∙ rw at-pair (go (readAt facts s at))
+    where
+      inner : (f : PacketFacts) (r : Read FlowKey ℕ)
+          → andThen (andThen r (λ k m. got (f, k) m)) (λ x m. got (toPacket x) m) ≡ andThen r (λ k m. got (record { facts = f; key = k }) m)
+      inner f (got k m) = refl
+      inner f short = refl
+      inner f refused = refl
+
+      go : (r : Read PacketFacts ℕ)
+          → andThen (andThen r (λ f n. andThen (readAt key s n) (λ k m. got (f, k) m))) (λ x m. got (toPacket x) m)
+          ≡ andThen r (λ f n. andThen (readAt key s n) (λ k m. got (record { facts = f; key = k }) m))
+      go (got f n) = inner f (readAt key s n)
+      go short = refl
+      go refused = refl
+
+  pub facts-short : readAt facts s at ≡ short → readAt packet s at ≡ short
+  facts-short e = packet-parts ∙ rw e
+
+  pub facts-refused : readAt facts s at ≡ refused → readAt packet s at ≡ refused
+  facts-refused e = packet-parts ∙ rw e
+
+  module _ (f : PacketFacts) (n : ℕ) (e : readAt facts s at ≡ got f n) where
+    pub facts-key : (k : FlowKey) (m : ℕ) → readAt key s n ≡ got k m → readAt packet s at ≡ got (record { facts = f; key = k }) m
+    facts-key k m h = packet-parts ∙ rw (e, h)
+
+    pub facts-key-short : readAt key s n ≡ short → readAt packet s at ≡ short
+    facts-key-short h = packet-parts ∙ rw (e, h)
+
+    pub facts-key-refused : readAt key s n ≡ refused → readAt packet s at ≡ refused
+    facts-key-refused h = packet-parts ∙ rw (e, h)
 
 module _ (s : List ℕ) where
   pub lone-empty : length s ≡ 0 → packetRead ReadPacket.Packet ≡ readOne 4 packet s

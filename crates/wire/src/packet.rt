@@ -22,7 +22,7 @@ ghost use Rattle.forms.specs.Field.{Taken};
 ghost use Rattle.forms.specs.Length.{Sized};
 ghost use Rattle.forms.specs.Lone.{readOne, writeOne};
 ghost use Rattle.forms.specs.Put.{Put};
-ghost use Rattle.wire.specs.PacketForm.{facts, packet, packetAt, packetRead, packetWrote, flagsInRange};
+ghost use Rattle.wire.specs.PacketForm.{facts, packet, factsAt, packetAt, packetRead, packetWrote, flagsInRange};
 
 // What a probe hands in: a packet's contribution, and what it names.
 pub struct Packet {
@@ -98,6 +98,27 @@ fn packet_field(s: &[u8], next: Next) -> PacketField
     }
 }
 
+// What stands at a place: a packet's facts and the place behind them, where its key begins.
+pub enum FactsAt {
+    Value(PacketFacts, usize),
+    Short,
+    Refused,
+}
+
+// The facts of the packet at `at`: a batch's reader takes them and the key one behind the other, so that it knows where the key lies.
+pub fn read_facts_at(s: &[u8], at: usize) -> FactsAt
+    ensures { λ r. ⌜ factsAt r ≡ readAt facts (now (s .entry)) at ⌝ }
+{
+    let field = facts_field(s, Next::At(at));
+    let f = field.value;
+    let next = field.next;
+    match next {
+        Next::At(n) => FactsAt::Value(f, n),
+        Next::Short => FactsAt::Short,
+        Next::Refused => FactsAt::Refused,
+    }
+}
+
 // What stands at a place: a packet and the place behind it, bytes that stop too early, or no packet.
 pub enum PacketAt {
     Value(Packet, usize),
@@ -105,7 +126,7 @@ pub enum PacketAt {
     Refused,
 }
 
-// The packet at `at`: what a batch is read by.
+// The packet at `at`.
 pub fn read_packet_at(s: &[u8], at: usize) -> PacketAt
     ensures { λ r. ⌜ packetAt r ≡ readAt packet (now (s .entry)) at ⌝ }
 {

@@ -3,3 +3,4 @@ pub mod Words
 pub mod FieldLaws
 pub mod WordLaws
 pub mod Kept
+pub mod Counting

@@ -5,9 +5,11 @@ use mathlib.Core.List.{List, [], _∷_, _++_}
 use lib.Dec.{leb, eqb}
 use lib.ListN.{getD, set}
 use Rattle.forms.specs.Optional.{number8, number16, number32}
+use Rattle.forms.specs.declared.optional.OptU16.{OptU16}
 use Rattle.stats.specs.declared.counts.TcpFlagCounts.{TcpFlagCounts}
 use Rattle.stats.specs.declared.counts.DirectionStats.{DirectionStats}
 use Rattle.stats.specs.declared.counts.NetworkStats.{NetworkStats}
+use Rattle.stats.specs.declared.counts.CaptureStats.{CaptureStats}
 use Rattle.flow.specs.declared.time.OptEndReason.{OptEndReason}
 use Rattle.flow.specs.declared.time.FlowTime.{FlowTime}
 use Rattle.flow.specs.declared.record.FlowRecord.{FlowRecord}
@@ -17,11 +19,14 @@ use Rattle.words.specs.Fields.{opt8At, opt16At, range8At, range32At, bou
 -- ---- the words of a record
 
 -- what belongs to no direction: 11 words
+abbrev pub sharedParts : FlowTime → NetworkStats → OptU16 → CaptureStats → List ℕ
+sharedParts time network icmp capture =
+    time .start .0 ∷ time .end .0 ∷ stateNumber (time .«start_state») ∷ resolutionNumber (time .resolution)
+    ∷ number8 (leastOf8 (network .ttl)) ∷ number8 (greatestOf8 (network .ttl)) ∷ number8 (network .dscp) ∷ number8 (network .ecn)
+    ∷ number16 icmp ∷ capture .«captured_octets» ∷ bitNumber (capture .truncated) ∷ []
+
 abbrev pub sharedWords : FlowRecord → List ℕ
-sharedWords r =
-    r .time .start .0 ∷ r .time .end .0 ∷ stateNumber (r .time .«start_state») ∷ resolutionNumber (r .time .resolution)
-    ∷ number8 (leastOf8 (r .network .ttl)) ∷ number8 (greatestOf8 (r .network .ttl)) ∷ number8 (r .network .dscp) ∷ number8 (r .network .ecn)
-    ∷ number16 (r .transport .icmp) ∷ r .capture .«captured_octets» ∷ bitNumber (r .capture .truncated) ∷ []
+sharedWords r = sharedParts (r .time) (r .network) (r .transport .icmp) (r .capture)
 
 -- the flag counts: 9 words
 abbrev pub flagWords : TcpFlagCounts → List ℕ

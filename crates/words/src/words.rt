@@ -10,6 +10,7 @@ use flow::record::FlowRecord;
 use flow::time::FlowTime;
 use flow::time::Nanos;
 use flow::time::OptEndReason;
+use forms::optional::OptU16;
 use forms::optional::opt_u8_number;
 use forms::optional::opt_u16_number;
 use stats::counts::CaptureStats;
@@ -31,7 +32,7 @@ ghost use mathlib.Core.Bool.{true};
 ghost use Prim.Native.Nat.{_+_, _≤_, _^_};
 ghost use lib.ListN.{length, getD};
 ghost use Rattle.words.specs.Fields.{BoundsFit};
-ghost use Rattle.words.specs.Words.{sharedWords, directionWords, wordsOf, written, timeAt, directionAt, networkAt, recordOf, wordsFit, NetworkFits};
+ghost use Rattle.words.specs.Words.{sharedParts, directionWords, wordsOf, written, timeAt, directionAt, networkAt, recordOf, wordsFit, NetworkFits};
 
 // Whether some record has these words.
 pub fn words_fit(ws: &[u64]) -> bool
@@ -49,8 +50,8 @@ pub fn words_fit(ws: &[u64]) -> bool
         & bounds_fit(0x1_0000_0000, ws[26], ws[27])
 }
 
-fn time_at(ws: &[u64]) -> FlowTime
-    requires { ⌜ length (now ws) ≡ 37 ⌝ }
+pub(crate) fn time_at(ws: &[u64]) -> FlowTime
+    requires { ⌜ 11 ≤ length (now ws) ⌝ }
     ensures { λ r. ⌜ r ≡ timeAt (now (ws .entry)) ⌝ }
 {
     FlowTime {
@@ -62,8 +63,8 @@ fn time_at(ws: &[u64]) -> FlowTime
     }
 }
 
-fn network_at(ws: &[u64]) -> NetworkStats
-    requires { ⌜ length (now ws) ≡ 37 ⌝ }
+pub(crate) fn network_at(ws: &[u64]) -> NetworkStats
+    requires { ⌜ 11 ≤ length (now ws) ⌝ }
     requires { ⌜ NetworkFits (now ws) ⌝ }
     ensures { λ r. ⌜ r ≡ networkAt (now (ws .entry)) ⌝ }
 {
@@ -79,7 +80,7 @@ fn network_at(ws: &[u64]) -> NetworkStats
 }
 
 // The direction whose 13 words begin at `at`.
-fn direction_at(ws: &[u64], at: usize) -> DirectionStats
+pub(crate) fn direction_at(ws: &[u64], at: usize) -> DirectionStats
     requires { ⌜ at + 13 ≤ length (now ws) ⌝ }
     requires { ⌜ BoundsFit (2 ^ 32) (getD (now ws) (at + 2) 0) (getD (now ws) (at + 3) 0) ⌝ }
     ensures { λ r. ⌜ r ≡ directionAt (now (ws .entry)) at ⌝ }
@@ -127,21 +128,23 @@ pub fn record_of(ws: &[u64]) -> FlowRecord
 }
 
 // The eleven words that belong to no direction, in front.
-fn put_shared(words: &mut [u64; 37], record: FlowRecord)
-    ensures { λ _. ⌜ now (words .exit) ≡ written (now (words .entry)) 0 0 (sharedWords «record») ⌝ }
+pub(crate) fn put_shared(
+    words: &mut [u64],
+    time: FlowTime,
+    network: NetworkStats,
+    icmp: OptU16,
+    capture: CaptureStats,
+)
+    requires { ⌜ 11 ≤ length (now words) ⌝ }
+    ensures { λ _. ⌜ now (words .exit) ≡ written (now (words .entry)) 0 0 (sharedParts time network icmp capture) ⌝ }
 {
-    let time = record.time;
     let start = time.start;
     let end = time.end;
     let state = time.start_state;
     let resolution = time.resolution;
-    let network = record.network;
     let ttl = network.ttl;
     let dscp = network.dscp;
     let ecn = network.ecn;
-    let transport = record.transport;
-    let icmp = transport.icmp;
-    let capture = record.capture;
     words[0] = start.0;
     words[1] = end.0;
     words[2] = state_number(state);
@@ -156,8 +159,8 @@ fn put_shared(words: &mut [u64; 37], record: FlowRecord)
 }
 
 // A direction's 13 words, from `at` on.
-fn put_direction(words: &mut [u64; 37], at: usize, direction: DirectionStats)
-    requires { ⌜ at + 13 ≤ 37 ⌝ }
+pub(crate) fn put_direction(words: &mut [u64], at: usize, direction: DirectionStats)
+    requires { ⌜ at + 13 ≤ length (now words) ⌝ }
     ensures { λ _. ⌜ now (words .exit) ≡ written (now (words .entry)) at 0 (directionWords direction) ⌝ }
 {
     let length = direction.packet_length;
@@ -181,10 +184,15 @@ fn put_direction(words: &mut [u64; 37], at: usize, direction: DirectionStats)
 pub fn words_of(record: FlowRecord) -> [u64; 37]
     ensures { λ r. ⌜ r ≡ wordsOf «record» ⌝ }
 {
+    let time = record.time;
+    let network = record.network;
+    let transport = record.transport;
+    let icmp = transport.icmp;
+    let capture = record.capture;
     let forward = record.forward;
     let reverse = record.reverse;
     let mut words = [0u64; 37];
-    put_shared(&mut words, record);
+    put_shared(&mut words, time, network, icmp, capture);
     put_direction(&mut words, 11, forward);
     put_direction(&mut words, 24, reverse);
     words

@@ -4,17 +4,8 @@ use borrow.Author.Needs.{needs}
 use Rattle.table.proofs.load_record_words.Statement.{statement}
 use Rattle.table.proofs.load_record_words.Tie as tie
 
-mul-load-words : tie.Need-mul-load-words
-mul-load-words c = search needs
-
-add-load-words : tie.Need-add-load-words
-add-load-words c = search needs
-
-add-load-words-2 : tie.Need-add-load-words-2
-add-load-words-2 c = search needs
-
-load-words-requires : tie.Need-load-words-requires
-load-words-requires c κs = search needs
+load-run-requires : tie.Need-load-run-requires
+load-run-requires c κs = search needs
 
 same-length : tie.Need-same-length
 same-length c = search needs
@@ -23,12 +14,4 @@ returns : tie.Need-returns
 returns c = search (words-loaded, needs)
 
 pub load-record-words-spec : {M : Type 1} → statement M
-load-record-words-spec =
-    tie.close
-    (tie.spec
-    mul-load-words
-    add-load-words
-    add-load-words-2
-    load-words-requires
-    same-length
-    returns)
+load-record-words-spec = tie.close (tie.spec load-run-requires same-length returns)

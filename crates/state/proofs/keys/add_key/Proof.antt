@@ -1,5 +1,5 @@
 -- `state::keys::add_key` meets its contract. Assumes nothing.
-use Rattle.state.specs.SlotTest.{adding-searched, adding-room, added-at-home, added-not, added-behind}
+use Rattle.state.specs.SlotTest.{adding-searched, adding-room, added-absent, added-not, added-behind}
 use borrow.Author.Needs.{needs}
 use Rattle.state.proofs.keys.add_key.Statement.{statement}
 use Rattle.state.proofs.keys.add_key.Tie as tie
@@ -7,8 +7,8 @@ use Rattle.state.proofs.keys.add_key.Tie as tie
 shard-requires : tie.Need-shard-requires
 shard-requires c κs = search needs
 
-home-is-empty-requires : tie.Need-home-is-empty-requires
-home-is-empty-requires c κs = search needs
+is-absent-requires : tie.Need-is-absent-requires
+is-absent-requires c κs = search needs
 
 insert-requires : tie.Need-insert-requires
 insert-requires c κs = let r = adding-room _ _ _ _ (c .before .before .before .before .before .before .before .pre) _ (c .before .before .before .before .shard .ensures) in (r .0, (r .1, r .2))
@@ -17,7 +17,7 @@ same-length : tie.Need-same-length
 same-length c = search needs
 
 returns : tie.Need-returns
-returns c = added-at-home _ _ _ _ (c .before .before .before .before .before .before .before .before .before .before .pre) _ (c .before .before .before .before .before .before .before .shard .ensures) _ (c .before .before .before .before .before .home-is-empty .ensures) (c .before .before .before .before .if1 .taken) _ (c .before .before .insert .ensures)
+returns c = added-absent _ _ _ _ (c .before .before .before .before .before .before .before .before .before .before .pre) _ (c .before .before .before .before .before .before .before .shard .ensures) _ (c .before .before .before .before .before .is-absent .ensures) (c .before .before .before .before .if1 .taken) _ (c .before .before .insert .ensures)
 
 key-stands-requires : tie.Need-key-stands-requires
 key-stands-requires c κs = (adding-searched _ _ _ _ (c .before .before .before .before .before .before .before .pre) _ (c .before .before .before .before .shard .ensures), (c .before .before .before .before .before .before .before .pre .own, c .before .before .before .before .before .before .before .pre .slot-size))
@@ -42,7 +42,7 @@ add-key-spec =
     tie.close
     (tie.spec
     shard-requires
-    home-is-empty-requires
+    is-absent-requires
     insert-requires
     same-length
     returns

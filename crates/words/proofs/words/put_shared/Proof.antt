@@ -1,64 +1,69 @@
 -- `words::words::put_shared` meets its contract. Assumes nothing.
+use native.Mathlib.Omega.{arith}
+use lib.ListN.{length-set}
 use borrow.Author.Needs.{needs}
 use Rattle.words.proofs.words.put_shared.Statement.{statement}
 use Rattle.words.proofs.words.put_shared.Tie as tie
 
-element-write-words : tie.Need-element-write-words
-element-write-words c = search needs
+slice-write-words : tie.Need-slice-write-words
+slice-write-words c = search needs
 
-element-write-words-2 : tie.Need-element-write-words-2
-element-write-words-2 c = search needs
+slice-write-words-2 : tie.Need-slice-write-words-2
+slice-write-words-2 c = simp length-set (omega arith)
 
 state-number-requires : tie.Need-state-number-requires
 state-number-requires c κs = search needs
 
-element-write-words-3 : tie.Need-element-write-words-3
-element-write-words-3 c = search needs
+slice-write-words-3 : tie.Need-slice-write-words-3
+slice-write-words-3 c = simp length-set (omega arith)
 
 resolution-number-requires : tie.Need-resolution-number-requires
 resolution-number-requires c κs = search needs
 
-element-write-words-4 : tie.Need-element-write-words-4
-element-write-words-4 c = search needs
+slice-write-words-4 : tie.Need-slice-write-words-4
+slice-write-words-4 c = simp length-set (omega arith)
 
 least-number8-requires : tie.Need-least-number8-requires
 least-number8-requires c κs = search needs
 
-element-write-words-5 : tie.Need-element-write-words-5
-element-write-words-5 c = search needs
+slice-write-words-5 : tie.Need-slice-write-words-5
+slice-write-words-5 c = simp length-set (omega arith)
 
 greatest-number8-requires : tie.Need-greatest-number8-requires
 greatest-number8-requires c κs = search needs
 
-element-write-words-6 : tie.Need-element-write-words-6
-element-write-words-6 c = search needs
+slice-write-words-6 : tie.Need-slice-write-words-6
+slice-write-words-6 c = simp length-set (omega arith)
 
 opt-u8-number-requires : tie.Need-opt-u8-number-requires
 opt-u8-number-requires c κs = search needs
 
-element-write-words-7 : tie.Need-element-write-words-7
-element-write-words-7 c = search needs
+slice-write-words-7 : tie.Need-slice-write-words-7
+slice-write-words-7 c = simp length-set (omega arith)
 
 opt-u8-number-requires-2 : tie.Need-opt-u8-number-requires-2
 opt-u8-number-requires-2 c κs = search needs
 
-element-write-words-8 : tie.Need-element-write-words-8
-element-write-words-8 c = search needs
+slice-write-words-8 : tie.Need-slice-write-words-8
+slice-write-words-8 c = simp length-set (omega arith)
 
 opt-u16-number-requires : tie.Need-opt-u16-number-requires
 opt-u16-number-requires c κs = search needs
 
-element-write-words-9 : tie.Need-element-write-words-9
-element-write-words-9 c = search needs
+slice-write-words-9 : tie.Need-slice-write-words-9
+slice-write-words-9 c = simp length-set (omega arith)
 
-element-write-words-10 : tie.Need-element-write-words-10
-element-write-words-10 c = search needs
+slice-write-words-10 : tie.Need-slice-write-words-10
+slice-write-words-10 c = simp length-set (omega arith)
 
 bit-number-requires : tie.Need-bit-number-requires
 bit-number-requires c κs = search needs
 
-element-write-words-11 : tie.Need-element-write-words-11
-element-write-words-11 c = search needs
+slice-write-words-11 : tie.Need-slice-write-words-11
+slice-write-words-11 c = simp length-set (omega arith)
+
+same-length : tie.Need-same-length
+same-length c = simp length-set
 
 returns : tie.Need-returns
 returns c =
@@ -77,23 +82,24 @@ pub put-shared-spec : {M : Type 1} → statement M
 put-shared-spec =
     tie.close
     (tie.spec
-    element-write-words
-    element-write-words-2
+    slice-write-words
+    slice-write-words-2
     state-number-requires
-    element-write-words-3
+    slice-write-words-3
     resolution-number-requires
-    element-write-words-4
+    slice-write-words-4
     least-number8-requires
-    element-write-words-5
+    slice-write-words-5
     greatest-number8-requires
-    element-write-words-6
+    slice-write-words-6
     opt-u8-number-requires
-    element-write-words-7
+    slice-write-words-7
     opt-u8-number-requires-2
-    element-write-words-8
+    slice-write-words-8
     opt-u16-number-requires
-    element-write-words-9
-    element-write-words-10
+    slice-write-words-9
+    slice-write-words-10
     bit-number-requires
-    element-write-words-11
+    slice-write-words-11
+    same-length
     returns)

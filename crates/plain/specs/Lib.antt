@@ -1,0 +1,4 @@
+pub mod Plain
+pub mod Tests
+pub mod Laid
+pub mod PlainLaws
