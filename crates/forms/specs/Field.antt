@@ -62,6 +62,22 @@ refuse Refused = Refused
 abbrev pub noNumber : Next → NumberField
 noNumber n = record { value = 0; next = n }
 
+-- the field that a number's answer makes
+abbrev pub fieldOf : NumberAt → NumberField
+fieldOf (Value v i) = record { value = v; next = At i }
+fieldOf NumberAt.Short = noNumber Short
+fieldOf NumberAt.Refused = noNumber Refused
+
+module _ (n : NumberAt) where
+  pub field-value : (v i : ℕ) → n ≡ Value v i → record { value = v; next = At i } ≡ fieldOf n
+  field-value v i e = rw e
+
+  pub field-short : (r : NumberField) → n ≡ NumberAt.Short → r ≡ noNumber Short → r ≡ fieldOf n
+  field-short r e h = rw (e, h)
+
+  pub field-refused : (r : NumberField) → n ≡ NumberAt.Refused → r ≡ noNumber Refused → r ≡ fieldOf n
+  field-refused r e h = rw (e, h)
+
 -- nothing was left to read, or the field before failed: that is passed on
 module _ {f : Form ℕ} {most : ℕ} {s : List ℕ} {next : Next} {r : NumberField} where
   none-short : readFrom f s next ≡ short → r ≡ noNumber Short → NumberTaken f most s next r
@@ -77,17 +93,15 @@ module _ {f : Form ℕ} {most : ℕ} {s : List ℕ} {next : Next} {r : NumberFie
   passed-refused e h = none-refused (rw e) h
 
 -- a number's answer at the place where the field before ended
-module _ (s : List ℕ) (next : Next) (most at : ℕ) (n : NumberAt) (here : next ≡ At at) (says : numberAt n ≡ readAt (number most) s at) where
-  pub number-got : (v i : ℕ) → n ≡ Value v i → NumberTaken (number most) most s next (record { value = v; next = At i })
-  number-got v i e =
-      let reads : got v i ≡ readAt (number most) s at = rw e at says in
-      record { fits = number-below most v (at-valid (number most) s at v i (sym reads)); takes = record { reads = rw here reads }; nothing = tt }
-
-  pub number-short : n ≡ NumberAt.Short → (r : NumberField) → r ≡ noNumber Short → NumberTaken (number most) most s next r
-  number-short e r h = none-short (rw here (sym (rw e at says))) h
-
-  pub number-refused : n ≡ NumberAt.Refused → (r : NumberField) → r ≡ noNumber Refused → NumberTaken (number most) most s next r
-  number-refused e r h = none-refused (rw here (sym (rw e at says))) h
+pub number-taken : (s : List ℕ) (next : Next) (most at : ℕ) (n : NumberAt) (r : NumberField) → next ≡ At at → numberAt n ≡ readAt (number most) s at → r ≡ fieldOf n
+    → NumberTaken (number most) most s next r
+number-taken s next most at n r here says made = rw made (go n says)
+  where
+    go : (n : NumberAt) → numberAt n ≡ readAt (number most) s at → NumberTaken (number most) most s next (fieldOf n)
+    go (Value v i) reads =
+        record { fits = number-below most v (at-valid (number most) s at v i (sym reads)); takes = record { reads = rw here reads }; nothing = tt }
+    go NumberAt.Short reads = none-short (rw here (sym reads)) refl
+    go NumberAt.Refused reads = none-refused (rw here (sym reads)) refl
 
 -- a byte there
 module _ (s : List ℕ) (next : Next) (at : ℕ) (here : next ≡ At at) where

@@ -8,6 +8,7 @@ pub mod Answers
 pub mod Field
 pub mod Raw
 pub mod Loop
+pub mod Nine
 pub mod Optional
 pub mod Theorems
 pub mod Examples

@@ -2,13 +2,14 @@
 // read: so a reader of many fields is a straight line, and the first field that fails decides.
 use crate::number::NumberAt;
 use crate::number::read_number;
+use crate::number::read_u64;
 use crate::number::wide;
 ghost use mathlib.Core.Path.{_≡_};
 ghost use Prim.Native.Nat.{_+_, _-_, _^_, _≤_, _<_};
 ghost use lib.ListN.{length};
 ghost use Rattle.forms.specs.Form.{byte, raw};
 ghost use Rattle.forms.specs.Number.{number};
-ghost use Rattle.forms.specs.Field.{NumberTaken, noNumber, refuse};
+ghost use Rattle.forms.specs.Field.{NumberTaken, noNumber, fieldOf, refuse};
 ghost use Rattle.forms.specs.Raw.{RawAt};
 
 // Where the next field begins, or why there is none.
@@ -45,19 +46,37 @@ fn no_number(next: Next) -> NumberField
     }
 }
 
+// The field that was read, or why there is none.
+fn field_of(found: NumberAt) -> NumberField
+    ensures { λ r. ⌜ r ≡ fieldOf found ⌝ }
+{
+    match found {
+        NumberAt::Value(v, n) => NumberField {
+            value: v,
+            next: Next::At(n),
+        },
+        NumberAt::Short => no_number(Next::Short),
+        NumberAt::Refused => no_number(Next::Refused),
+    }
+}
+
 // A number of at most `most`.
 pub fn number_field(s: &[u8], next: Next, most: u64) -> NumberField
     ensures { λ r. ⌜ NumberTaken (number most) most (now (s .entry)) next r ⌝ }
 {
     match next {
-        Next::At(at) => match read_number(s, at, most) {
-            NumberAt::Value(v, n) => NumberField {
-                value: v,
-                next: Next::At(n),
-            },
-            NumberAt::Short => no_number(Next::Short),
-            NumberAt::Refused => no_number(Next::Refused),
-        },
+        Next::At(at) => field_of(read_number(s, at, most)),
+        Next::Short => no_number(Next::Short),
+        Next::Refused => no_number(Next::Refused),
+    }
+}
+
+// A number of any size.
+pub fn u64_field(s: &[u8], next: Next) -> NumberField
+    ensures { λ r. ⌜ NumberTaken (number 18446744073709551615) 18446744073709551615 (now (s .entry)) next r ⌝ }
+{
+    match next {
+        Next::At(at) => field_of(read_u64(s, at)),
         Next::Short => no_number(Next::Short),
         Next::Refused => no_number(Next::Refused),
     }

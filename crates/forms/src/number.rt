@@ -2,13 +2,15 @@
 use crate::place::Place;
 use crate::place::write_number;
 ghost use mathlib.Core.Path.{_≡_};
-ghost use Prim.Native.Nat.{_<_};
+ghost use Prim.Native.Nat.{_+_, _≤_, _<_};
 ghost use lib.Dec.{leb};
+ghost use lib.ListN.{length};
 ghost use Rattle.forms.specs.Number.{number, numberBytes};
 ghost use Rattle.forms.specs.At.{readAt};
 ghost use Rattle.forms.specs.Answers.{numberAt, numberRead, numberWrote};
 ghost use Rattle.forms.specs.Length.{Sized};
 ghost use Rattle.forms.specs.Lone.{readOne, writeOne};
+ghost use Rattle.forms.specs.Nine.{fourMore, isNine, FourMore, FourRead, Nine, NineRead};
 
 // What stands at a place: a number and the place behind it, bytes that stop too early, or no number within the bound.
 pub enum NumberAt {
@@ -67,6 +69,61 @@ pub fn read_number(s: &[u8], at: usize, most: u64) -> NumberAt
         }
     }
     read_groups(s, at, most)
+}
+
+// Whether the four bytes from `at` on are groups that more follow.
+fn four_more(s: &[u8], at: usize) -> bool
+    requires { ⌜ at + 4 ≤ length (now s) ⌝ }
+    ensures { λ r. ⌜ r ≡ fourMore (now (s .entry)) at ⌝ }
+{
+    (128 <= s[at]) & (128 <= s[at + 1]) & (128 <= s[at + 2]) & (128 <= s[at + 3])
+}
+
+// What they count.
+fn four_groups(s: &[u8], at: usize) -> u64
+    requires { ⌜ at + 4 ≤ length (now s) ⌝ }
+    requires { ⌜ FourMore (now s) at ⌝ }
+    ensures { λ r. ⌜ FourRead (now (s .entry)) at r ⌝ }
+{
+    let a = wide(s[at]) - 128;
+    let b = wide(s[at + 1]) - 128;
+    let c = wide(s[at + 2]) - 128;
+    let d = wide(s[at + 3]) - 128;
+    a + 128 * b + 16384 * c + 2097152 * d
+}
+
+// Whether the nine bytes from `at` on are a number of nine groups.
+fn is_nine(s: &[u8], at: usize) -> bool
+    ensures { λ r. ⌜ r ≡ isNine (now (s .entry)) at ⌝ }
+{
+    if s.len() < at {
+        return false;
+    }
+    if s.len() - at < 9 {
+        return false;
+    }
+    four_more(s, at) & four_more(s, at + 4) & (0 < s[at + 8]) & (s[at + 8] < 128)
+}
+
+// What they count.
+fn nine_groups(s: &[u8], at: usize) -> u64
+    requires { ⌜ Nine (now s) at ⌝ }
+    ensures { λ r. ⌜ NineRead (now (s .entry)) at r ⌝ }
+{
+    let low = four_groups(s, at);
+    let high = four_groups(s, at + 4);
+    let last = wide(s[at + 8]);
+    low + 268435456 * (high + 268435456 * last)
+}
+
+// The number at `at`, of any size. Nanoseconds since 1970 take nine groups, from 1972 to 2262: those are read at once.
+pub fn read_u64(s: &[u8], at: usize) -> NumberAt
+    ensures { λ r. ⌜ numberAt r ≡ readAt (number 18446744073709551615) (now (s .entry)) at ⌝ }
+{
+    if is_nine(s, at) {
+        return NumberAt::Value(nine_groups(s, at), at + 9);
+    }
+    read_number(s, at, 0xffff_ffff_ffff_ffff)
 }
 
 // How many bytes a number takes: one for each seven bits up to its highest set bit.

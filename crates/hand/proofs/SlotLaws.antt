@@ -9,8 +9,8 @@ use Rattle.slots.specs.Table.{keyOf}
 use Rattle.words.specs.Words.{recordOf, wordsFit}
 use Rattle.forms.specs.Form.{Read, got, short, refused, andThen}
 use Rattle.forms.specs.At.{readAt, placed-front}
-use Rattle.index.specs.Hash.{noKey, keyFrom}
-use Rattle.index.specs.Hash as Hash
+use Rattle.index.specs.Hash.{keyFrom}
+use Rattle.key.specs.KeyOr.{noKey, keyOr}
 use Rattle.key.specs.KeyForm.{key, keyAt}
 use Rattle.key.specs.declared.form.KeyAt.{KeyAt}
 use Rattle.key.specs.declared.key.FlowKey.{FlowKey}
@@ -37,34 +37,28 @@ module _ (b ws : List ℕ) (loaded : ws ≡ wordsAt b 80 37) where
 
 -- ---- the key
 
--- the key that was read; where there is none, one of zeros
-abbrev keyRead : Read FlowKey ℕ → FlowKey
-keyRead (got k next) = k
-keyRead short = noKey
-keyRead refused = noKey
-
-key-read : (s : List ℕ) → keyRead (readAt key s 0) ≡ keyFrom s
+key-read : (s : List ℕ) → keyOr (readAt key s 0) ≡ keyFrom s
 unfolding keyFrom
-key-read s = ap keyRead (placed-front (key .read) s) ∙ go (key .read s)
+key-read s = ap keyOr (placed-front (key .read) s) ∙ go (key .read s)
   where
-    go : (r : Read FlowKey (List ℕ)) → keyRead (andThen r (λ a rest. got a (length s - length rest))) ≡ Hash.keyIn r
+    go : (r : Read FlowKey (List ℕ)) → keyOr (andThen r (λ a rest. got a (length s - length rest))) ≡ keyOr r
     go (got k rest) = refl
     go short = refl
     go refused = refl
 
 module _ (b s : List ℕ) (x : KeyAt) (lies : s ≡ keyOf b) (says : keyAt x ≡ readAt key s 0) where
-  key-there : keyRead (keyAt x) ≡ keyIn b
+  key-there : keyOr (keyAt x) ≡ keyIn b
   unfolding keyIn
-  key-there = ap keyRead says ∙ key-read s ∙ ap keyFrom lies
+  key-there = ap keyOr says ∙ key-read s ∙ ap keyFrom lies
 
   pub key-value : (k : FlowKey) (next : ℕ) → x ≡ KeyAt.Value k next → k ≡ keyIn b
-  key-value k next e = ap (λ (y : KeyAt). keyRead (keyAt y)) (sym e) ∙ key-there
+  key-value k next e = ap (λ (y : KeyAt). keyOr (keyAt y)) (sym e) ∙ key-there
 
   pub key-short : {k : FlowKey} → k ≡ noKey → x ≡ KeyAt.Short → k ≡ keyIn b
-  key-short blank e = blank ∙ ap (λ (y : KeyAt). keyRead (keyAt y)) (sym e) ∙ key-there
+  key-short blank e = blank ∙ ap (λ (y : KeyAt). keyOr (keyAt y)) (sym e) ∙ key-there
 
   pub key-refused : {k : FlowKey} → k ≡ noKey → x ≡ KeyAt.Refused → k ≡ keyIn b
-  key-refused blank e = blank ∙ ap (λ (y : KeyAt). keyRead (keyAt y)) (sym e) ∙ key-there
+  key-refused blank e = blank ∙ ap (λ (y : KeyAt). keyOr (keyAt y)) (sym e) ∙ key-there
 
 -- ---- the flow as it is handed out
 

@@ -17,7 +17,7 @@ ghost use mathlib.Core.Bool.{cond};
 ghost use Prim.Native.Nat.{_+_, _*_, _≤_};
 ghost use lib.ListN.{length};
 ghost use Rattle.slots.specs.Table.{slot};
-ghost use Rattle.index.specs.Hash.{noKey};
+ghost use Rattle.key.specs.KeyOr.{noKey};
 ghost use Rattle.flow.specs.declared.time.EndReason.the-variants.{Fin};
 ghost use Rattle.rules.specs.Rules.{finishOr};
 ghost use Rattle.rules.specs.Engine.{engine, bothFins, finishedFlow};

@@ -3,47 +3,16 @@ use Prim.Native.Nat.{ℕ, _<_}
 use mathlib.Core.Path.{_≡_, sym, ap, _∙_}
 use mathlib.Core.List.{List, [], append-nil}
 use native.Mathlib.Omega.{arith}
-use Rattle.forms.specs.Form.{Read, got, short, refused}
-use Rattle.forms.specs.declared.optional.OptU16.{OptU16}
 use Rattle.key.specs.Key.{reversedKey}
 use Rattle.key.specs.Shard.{shardOf, same-shard}
 use Rattle.key.specs.KeyForm.{key}
+use Rattle.key.specs.KeyOr.{keyOr}
 use Rattle.key.specs.KeyTheorems.{KeyInRange, key-valid}
-use Rattle.key.specs.declared.key.Address.{Address}
-use Rattle.key.specs.declared.key.Endpoints.{Endpoints}
 use Rattle.key.specs.declared.key.FlowKey.{FlowKey}
-use Rattle.key.specs.declared.link.MacAddress.{MacAddress}
-use Rattle.key.specs.declared.vlan.VlanTags.{VlanTags}
-use Rattle.key.specs.declared.encapsulation.OptEncapsulation.{OptEncapsulation}
-
--- an address of zeros
-abbrev pub noMac : MacAddress
-noMac = record { high = 0; low = 0 }
-
--- a key of zeros
-abbrev pub noKey : FlowKey
-noKey =
-    record {
-      source = Address.V4 0;
-      destination = Address.V4 0;
-      endpoints = Endpoints.None;
-      protocol = 0;
-      ethertype = OptU16.Absent;
-      «source_mac» = noMac;
-      «destination_mac» = noMac;
-      vlan = VlanTags.Untagged;
-      encapsulation = OptEncapsulation.Absent;
-    }
-
--- the key that was read; where there is none, one of zeros
-abbrev pub keyIn : Read FlowKey (List ℕ) → FlowKey
-keyIn (got k rest) = k
-keyIn short = noKey
-keyIn refused = noKey
 
 -- the key that bytes begin with; where there is none, one of zeros
 unfoldable pub keyFrom : List ℕ → FlowKey
-keyFrom bytes = keyIn (key .read bytes)
+keyFrom bytes = keyOr (key .read bytes)
 
 -- the hash of the key that bytes begin with
 unfoldable pub hashOf : List ℕ → ℕ
@@ -54,7 +23,7 @@ hashOf bytes = shardOf (keyFrom bytes) 524288
 -- from a key's own bytes the key comes back
 pub key-from : (k : FlowKey) → KeyInRange k → keyFrom (key .write k) ≡ k
 unfolding keyFrom
-key-from k inside = ap (λ (bytes : List ℕ). keyIn (key .read bytes)) (sym (append-nil (key .write k))) ∙ ap keyIn (key .there k [] (key-valid k inside))
+key-from k inside = ap (λ (bytes : List ℕ). keyOr (key .read bytes)) (sym (append-nil (key .write k))) ∙ ap keyOr (key .there k [] (key-valid k inside))
 
 -- what a division by 524,288 leaves
 shard-small : (k : FlowKey) → shardOf k 524288 < 524288

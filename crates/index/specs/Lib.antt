@@ -1,3 +1,4 @@
+pub mod Agree
 pub mod Hash
 pub mod Index
 pub mod Reversed

@@ -5,9 +5,58 @@ use slots::Found;
 ghost use mathlib.Core.Path.{_≡_};
 ghost use Prim.Native.Nat.{_+_, _*_, _≤_, _<_};
 ghost use lib.ListN.{length};
-ghost use Rattle.slots.specs.Table.{slots, holds, firstWhere, NoKeyTwice};
+ghost use Rattle.memory.specs.Decides.{Decides};
+ghost use Rattle.slots.specs.Table.{slot, slots, holds, firstWhere, NoKeyTwice};
+ghost use Rattle.index.specs.Agree.{Agrees};
 ghost use Rattle.index.specs.Hash.{hashOf};
 ghost use Rattle.index.specs.Index.{home, entryOf, homeIn, hashAbsent, taken, Has, Tight, Indexed, Inserted, Forgotten, FirstPlace};
+
+// Whether the first 8 * words bytes of key stand in the state from `from` on.
+fn same_words(state: &[u8], from: usize, key: &[u8], words: usize) -> bool
+    requires { ⌜ from + 8 * words ≤ length (now state) ⌝ }
+    requires { ⌜ 8 * words ≤ length (now key) ⌝ }
+    ensures { λ r. ⌜ Decides r (Agrees (now (state .entry)) from (now (key .entry)) 0 (8 * words)) ⌝ }
+{
+    for k in 0..words {
+        if memory::load_u64(state, from + 8 * k) != memory::load_u64(key, 8 * k) {
+            return false;
+        }
+    }
+    true
+}
+
+// Whether key's bytes from `first` on stand in the state too, where key would stand from `from` on.
+fn same_rest(state: &[u8], from: usize, key: &[u8], first: usize) -> bool
+    requires { ⌜ from + length (now key) ≤ length (now state) ⌝ }
+    ensures { λ r. ⌜ Decides r (Agrees (now (state .entry)) from (now (key .entry)) first (length (now (key .entry)))) ⌝ }
+{
+    for k in first..key.len() {
+        if state[from + k] != key[k] {
+            return false;
+        }
+    }
+    true
+}
+
+// Whether slot i is used under this key.
+fn holds_key(state: &[u8], i: usize, key: &[u8]) -> bool
+    requires { ⌜ 256 + 624 * i + 624 ≤ length (now state) ⌝ }
+    ensures { λ r. ⌜ r ≡ holds (now (key .entry)) (slot (now (state .entry)) i) ⌝ }
+{
+    let base = 256 + 624 * i;
+    if state[base] != 1 {
+        return false;
+    }
+    if state[base + 1] as usize != key.len() {
+        return false;
+    }
+    // Eight bytes at a time, then what is left.
+    let words = key.len() / 8;
+    if !same_words(state, base + 2, key, words) {
+        return false;
+    }
+    same_rest(state, base + 2, key, 8 * words)
+}
 
 // The used slot with this key.
 pub fn find(index: &[u32], state: &[u8], capacity: usize, key: &[u8], hash: u64) -> Found
@@ -17,37 +66,20 @@ pub fn find(index: &[u32], state: &[u8], capacity: usize, key: &[u8], hash: u64)
     requires { ⌜ hash ≡ hashOf (now key) ⌝ }
     ensures { λ r. ⌜ r ≡ firstWhere (holds (now (key .entry))) 0 (slots (now (state .entry)) capacity) ⌝ }
 {
-    let from = (hash % 8192) as usize;
+    let first = (hash % 8192) as usize;
     let tag = hash % 524288;
-    'slots: for place in from..16384 {
+    for place in first..16384 {
         let entry = index[place] as u64;
         if entry == 0 {
             return Found::Nothing;
         }
         if (entry - 1) / 8192 != tag {
-            continue 'slots;
+            continue;
         }
         let i = ((entry - 1) % 8192) as usize;
-        let base = 256 + 624 * i;
-        if state[base] != 1 {
-            continue 'slots;
+        if holds_key(state, i, key) {
+            return Found::At(i);
         }
-        if state[base + 1] as usize != key.len() {
-            continue 'slots;
-        }
-        let words = key.len() / 8;
-        // Eight bytes at a time, then what is left.
-        for k in 0..words {
-            if memory::load_u64(state, base + 2 + 8 * k) != memory::load_u64(key, 8 * k) {
-                continue 'slots;
-            }
-        }
-        for k in 8 * words..key.len() {
-            if state[base + 2 + k] != key[k] {
-                continue 'slots;
-            }
-        }
-        return Found::At(i);
     }
     Found::Nothing
 }

@@ -3,6 +3,7 @@ pub mod Key
 pub mod Shard
 pub mod KeyLaws
 pub mod KeyForm
+pub mod KeyOr
 pub mod KeyRead
 pub mod KeyWrite
 pub mod KeyLength

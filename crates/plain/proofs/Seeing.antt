@@ -29,7 +29,8 @@ use Rattle.key.specs.KeyForm.{key, mac}
 use Rattle.key.specs.KeyRead.{ports-made, ports-taken, v4-made, v4-taken, mac-made, untagged-taken, no-tunnel-taken, key-made}
 use Rattle.key.specs.declared.key.FlowKey.{FlowKey}
 use Rattle.key.specs.declared.link.MacAddress.{MacAddress}
-use Rattle.plain.specs.Plain.{isPlain, plainIn, plainAt, noMac}
+use Rattle.plain.specs.Plain.{isPlain, plainIn, plainAt}
+use Rattle.key.specs.KeyOr.{noMac}
 use Rattle.plain.specs.Tests.{headIsPlain, tailIsPlain, plainKey, plainHash}
 use Rattle.plain.specs.Laid.{at-there, at-back, plain-is, both-true, Seen, none-seen, byte-is, afterFirst, afterSecond}
 use Rattle.plain.specs.Laid.{at-second, at-addresses, at-next, none-here, ports-here, first-here, second-here}

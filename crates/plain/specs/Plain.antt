@@ -12,10 +12,10 @@ use Rattle.forms.specs.declared.optional.OptU16.{OptU16}
 use Rattle.key.specs.Shard.{shardOf}
 use Rattle.key.specs.Endpoints.{portPair}
 use Rattle.key.specs.KeyForm.{key}
+use Rattle.key.specs.KeyOr.{keyOr}
 use Rattle.key.specs.declared.key.Address.{Address}
 use Rattle.key.specs.declared.key.Endpoints.{Endpoints}
 use Rattle.key.specs.declared.key.FlowKey.{FlowKey}
-use Rattle.key.specs.declared.link.MacAddress.{MacAddress}
 use Rattle.key.specs.declared.vlan.VlanTags.{VlanTags}
 use Rattle.key.specs.declared.encapsulation.OptEncapsulation.{OptEncapsulation}
 use Rattle.plain.specs.declared.Plain.{Plain}
@@ -76,29 +76,6 @@ plainAt s at = plainIn (readAt key s at)
 
 -- ---- the key that stands at a place
 
-abbrev pub noMac : MacAddress
-noMac = record { high = 0; low = 0 }
-
--- a key of zeros
-abbrev pub noKey : FlowKey
-noKey =
-    record {
-      source = Address.V4 0;
-      destination = Address.V4 0;
-      endpoints = Endpoints.None;
-      protocol = 0;
-      ethertype = OptU16.Absent;
-      «source_mac» = noMac;
-      «destination_mac» = noMac;
-      vlan = VlanTags.Untagged;
-      encapsulation = OptEncapsulation.Absent;
-    }
-
-abbrev pub keyIn : Read FlowKey ℕ → FlowKey
-keyIn (got k next) = k
-keyIn short = noKey
-keyIn refused = noKey
-
 -- the key that is read at a place; where there is none, one of zeros
 unfoldable pub keyRead : List ℕ → ℕ → FlowKey
-keyRead s at = keyIn (readAt key s at)
+keyRead s at = keyOr (readAt key s at)

@@ -11,7 +11,8 @@ use Rattle.key.specs.Endpoints.{hasReverseDirection}
 use Rattle.key.specs.Key.{reversedKey}
 use Rattle.key.specs.KeyForm.{key}
 use Rattle.key.specs.Shard.{shardOf}
-use Rattle.plain.specs.Plain.{plainAt, keyIn, keyRead}
+use Rattle.plain.specs.Plain.{plainAt, keyRead}
+use Rattle.key.specs.KeyOr.{keyOr}
 use Rattle.plain.specs.Tests.{plainKey}
 use Rattle.plain.specs.Laid.{plain-writes, plain-length, Seen, seen, part-is}
 use Rattle.plain.specs.declared.Plain.{Plain}
@@ -21,7 +22,7 @@ use Rattle.plain.specs.declared.PlainAt.{PlainAt}
 pub key-seen : {s : List ℕ} {at : ℕ} {p : Plain} (h : Seen s at p)
     → keyRead s at ≡ plainKey (h .protocol) (h .first) (h .second) (h .source) (h .destination) (h .source-mac) (h .destination-mac)
 unfolding keyRead
-key-seen h = ap keyIn (h .reads)
+key-seen h = ap keyOr (h .reads)
 
 module _ (s : List ℕ) (at : ℕ) {p : Plain} (plain : plainAt s at ≡ PlainAt.Key p) where
   h : Seen s at p

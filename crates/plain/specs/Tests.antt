@@ -12,7 +12,7 @@ use Rattle.key.specs.declared.key.FlowKey.{FlowKey}
 use Rattle.key.specs.declared.link.MacAddress.{MacAddress}
 use Rattle.key.specs.declared.vlan.VlanTags.{VlanTags}
 use Rattle.key.specs.declared.encapsulation.OptEncapsulation.{OptEncapsulation}
-use Rattle.plain.specs.Plain.{noMac}
+use Rattle.key.specs.KeyOr.{noMac}
 
 -- there is room for a plain key, of at least 29 bytes, and its first three stand here: protocol, no EtherType, ports
 unfoldable pub headIsPlain : List ℕ → ℕ → Bool

@@ -162,10 +162,6 @@ module _ (s : List ℕ) (i : ℕ) (fits : 256 + 624 * i + 624 ≤ length s) wher
       pub not-long : (getD s (256 + 624 * i + 1) 0 ≡ length key → ⊥) → holds key (slot s i) ≡ false
       not-long n = not-key (λ e. n (sym key-length ∙ ap length e))
 
-      pub not-same : (k : ℕ) → k < length key → getD s (256 + 624 * i + 1) 0 ≡ length key
-          → (getD s (256 + 624 * i + 2 + k) 0 ≡ getD key k 0 → ⊥) → holds key (slot s i) ≡ false
-      not-same k h long n = not-key (λ e. n (sym (key-at k (omega arith)) ∙ ap (λ (l : List ℕ). getD l k 0) e))
-
       pub matches : getD s (256 + 624 * i) 0 ≡ 1 → getD s (256 + 624 * i + 1) 0 ≡ length key
           → ((k : ℕ) → k < length key → getD s (256 + 624 * i + 2 + k) 0 ≡ getD key k 0) → holds key (slot s i) ≡ true
       matches used long bytes =

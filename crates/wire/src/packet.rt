@@ -4,6 +4,7 @@ use flow::record::PacketFacts;
 use flow::time::Nanos;
 use forms::field::Next;
 use forms::field::number_field;
+use forms::field::u64_field;
 use forms::number::number_len;
 use forms::optional::OptU16;
 use forms::optional::opt_u8_field;
@@ -40,7 +41,7 @@ struct FactsField {
 fn facts_field(s: &[u8], next: Next) -> FactsField
     ensures { λ r. ⌜ Taken facts (now (s .entry)) next (r .value) (r .next) ⌝ }
 {
-    let time = number_field(s, next, 0xffff_ffff_ffff_ffff);
+    let time = u64_field(s, next);
     let behind_time = time.next;
     let frame = number_field(s, behind_time, 4294967295);
     let behind_frame = frame.next;

@@ -4,14 +4,14 @@ use borrow.Author.Needs.{needs}
 use Rattle.wire.proofs.packet.facts_field.Statement.{statement}
 use Rattle.wire.proofs.packet.facts_field.Tie as tie
 
+u64-field-requires : tie.Need-u64-field-requires
+u64-field-requires c κs = search needs
+
 number-field-requires : tie.Need-number-field-requires
 number-field-requires c κs = search needs
 
 number-field-requires-2 : tie.Need-number-field-requires-2
 number-field-requires-2 c κs = search needs
-
-number-field-requires-3 : tie.Need-number-field-requires-3
-number-field-requires-3 c κs = search needs
 
 opt-u8-field-requires : tie.Need-opt-u8-field-requires
 opt-u8-field-requires c κs = search needs
@@ -45,9 +45,9 @@ returns c =
     let f2 = f3 .before in
     let f1 = f2 .before in
     facts-made
-    (f1 .number-field .ensures .takes)
-    (f2 .number-field2 .ensures .takes)
-    (f3 .number-field3 .ensures .takes)
+    (f1 .u64-field .ensures .takes)
+    (f2 .number-field .ensures .takes)
+    (f3 .number-field2 .ensures .takes)
     (f4 .opt-u8-field .ensures .takes)
     (f5 .opt-u16-field .ensures .takes)
     (f6 .opt-u16-field2 .ensures .takes)
@@ -58,9 +58,9 @@ pub facts-field-spec : {M : Type 1} → statement M
 facts-field-spec =
     tie.close
     (tie.spec
+    u64-field-requires
     number-field-requires
     number-field-requires-2
-    number-field-requires-3
     opt-u8-field-requires
     opt-u16-field-requires
     opt-u16-field-requires-2
