@@ -2,10 +2,10 @@
  * braidpuddle: a network flow meter. Packets go in, flow records come out, one record for each conversation.
  *
  * The rules are document 01's ("Description of the build and its rules"): byte forms, the plain rules, calls and refusals. Words such
- * as packet form, key form, record form, sound record, sound state, Short mean here what they mean there. docs/RULES.md has the rules in
- * short; what a probe maker needs of them stands below.
+ * as packet form, key form, record form, sound record, sound state, Short mean here what they mean there. docs/RULES.md has the rules and
+ * the forms in short, and says what these words mean; what a probe maker needs of them stands below.
  *
- * Link with libbraidpuddle.a (cc probe.c -lbraidpuddle); of other libraries it needs memset alone.
+ * Link with libbraidpuddle.a (cc -I include probe.c -L build/lib -lbraidpuddle); of other libraries it needs memcpy and memset alone.
  *
  * How to call
  * -----------
@@ -36,25 +36,34 @@
  * What becomes of packets
  * -----------------------
  * - A record's key is that of the packet which opened the flow; forward is that packet's direction. A packet under the reversed key counts
- *   as reverse, except that with an SPI each direction is a flow of its own.
- * - RST ends its flow with that packet, as Rst. After FIN both ways the next packet of the flow is counted and ends it, as Fin; but one with
- *   SYN ends it uncounted and opens another, and that packet ends nothing more, even with RST. FIN, SYN and RST are obeyed for any protocol.
- * - A flow is due once the latest time seen, of packets and sweeps, has reached its latest packet + timeout + the lesser of one second and
- *   half the timeout: then the next packet of any flow, or the next sweep, hands it out, as Fin if FIN was seen both ways, else as
- *   IdleTimeout. A packet before that still counts on it. A late packet counts on its open flow; if it opens one that is already due, that one leaves next.
+ *   as reverse, except that with an SPI each direction is a flow of its own. A key that is its own reverse counts forward only.
+ * - The whole key names the flow. Where one direction alone has a VLAN tag, or a MAC address changes on the way, one conversation is two
+ *   flows: write what both directions have, or forget the MAC addresses (braidpuddle_forget_link_addresses).
+ * - A packet with RST is counted and ends its flow, as Rst, whether FIN was seen or not. Any other packet behind FIN both ways is counted and
+ *   ends its flow, as Fin; but one with SYN, with RST or not, ends it uncounted, as Fin, and opens another, and ends nothing more. A SYN on
+ *   a flow that has not seen FIN both ways is counted on it. FIN, SYN and RST are obeyed for any protocol.
+ * - What comes behind the end is a flow of its own: a second ACK behind both FINs, or data behind RST, opens a record, mostly of one packet and
+ *   MidStream, whose forward is that packet's direction. Nothing is remembered of a flow that has ended.
+ * - Each packet first sweeps at its own time. A flow is due once the latest time seen, of packets and sweeps, has reached its latest packet +
+ *   timeout + the lesser of one second and half the timeout. The packet, of any flow, or the sweep whose time reaches that hands it out
+ *   before anything is counted, as Fin if FIN was seen both ways, else as IdleTimeout. A packet a nanosecond earlier still counts on it.
+ * - A late packet counts on its open flow and may move the record's start back; if it opens a flow that is already due, that one leaves with
+ *   the next packet or sweep: late packets fed behind a sweep come out as records of one packet each.
  *
- * The key form has no writer here but its numbers have (braidpuddle_write_number). It is, in this order:
+ * The key form has no writer and no reader of its own here, but its numbers have (braidpuddle_write_number, braidpuddle_read_number). It is,
+ * in this order:
  *     protocol        number, at most 255
  *     ethertype       optional number, 16 bits
  *     endpoints       0 for none; 1, source port, destination port; 2, SPI (32 bits); 3, GRE protocol (16 bits)
  *     source          4 and 4 raw bytes, or 6 and 16 raw bytes
- *     destination     the same
+ *     destination     4 and 4 raw bytes, or 6 and 16 raw bytes
  *     source MAC      6 raw bytes
  *     destination MAC 6 raw bytes
  *     VLAN tags       0; 1 and a tag; 2 and two tags, the outer first (16 bits each: the id without priority bits)
  *     encapsulation   optional kind (8 bits: 0 VXLAN, 1 Geneve, 2 GRE, 3 MPLS, 4 PPPoE, 5 IP in IP, 6 other) and, only where it is
  *                     present, an optional id (32 bits)
- * What is not IP has an ethertype, protocol 0, no endpoints, and addresses 0.0.0.0 or those inside an ARP packet; IP has no ethertype.
+ * What is not IP has an ethertype, protocol 0, no endpoints, and addresses 0.0.0.0 or those inside an ARP packet; IP has no ethertype. That
+ * is how to write a key so that a conversation has one: it is not checked, and any numbers within their bounds are a key.
  * A number has groups of seven bits, low group first, the top bit set while more follow, in the shortest form. An optional is 0 for
  * absent, else its value plus 1: this holds for the byte forms and for every optional number of the arrays below.
  */
@@ -104,7 +113,8 @@ enum braidpuddle_refusal {
     /* Packet: what remains is neither begun by a packet form (or the lone number read), nor Short, nor the empty end of a batch; or a
      * packet or number given for writing or counting has a field out of range. */
     BRAIDPUDDLE_REFUSAL_PACKET = 4,
-    /* Full: after this packet's sweep and step 1 it would open a flow, and capacity flows are open. */
+    /* Full: after this packet's sweep and step 1 it would open a flow, and capacity flows are open. (Step 1: its SYN ends the flow of its
+     * key that has seen FIN both ways.) */
     BRAIDPUDDLE_REFUSAL_FULL = 5,
     /* Spent: the record that takes the packet would pass 2^64 - 1 in packets or octets of both directions together, or in captured
      * octets. */
@@ -141,7 +151,8 @@ enum braidpuddle_reason {
 /* The reasons' names, for an array of 4 strings. */
 #define BRAIDPUDDLE_REASON_NAMES { "IdleTimeout", "Fin", "Rst", "CaptureEnd" }
 
-/* How a flow's beginning was met. */
+/* How a flow's beginning was met. NotApplicable unless the protocol is 6 (TCP); else SynObserved if the first packet, or one that is not
+ * later than the earliest so far, had SYN, with ACK or without; else MidStream. */
 enum braidpuddle_start_state {
     BRAIDPUDDLE_START_SYN_OBSERVED = 0,
     BRAIDPUDDLE_START_MID_STREAM = 1,
@@ -225,8 +236,8 @@ enum braidpuddle_packet_place {
 /* A record without its key and its end reason: 11 numbers of its own, then 13 for each direction. Those marked optional are 0 for
  * absent, else the value plus 1. */
 enum braidpuddle_record {
-    BRAIDPUDDLE_RECORD_START = 0,           /* nanoseconds */
-    BRAIDPUDDLE_RECORD_END = 1,             /* nanoseconds */
+    BRAIDPUDDLE_RECORD_START = 0,           /* nanoseconds: the earliest packet's time */
+    BRAIDPUDDLE_RECORD_END = 1,             /* nanoseconds: the latest packet's time */
     BRAIDPUDDLE_RECORD_START_STATE = 2,     /* enum braidpuddle_start_state */
     BRAIDPUDDLE_RECORD_RESOLUTION = 3,      /* enum braidpuddle_resolution */
     BRAIDPUDDLE_RECORD_TTL_LEAST = 4,       /* optional, 8 bits */
@@ -323,10 +334,11 @@ uint64_t braidpuddle_open(uint8_t *state, size_t state_length, uint64_t capacity
  *   3 Damaged   the state is not sound
  * Then packet by packet, in this order. The packets before are taken, and their records are written; the refused packet changes
  * nothing, neither a flow nor the clock. It begins at batch + answer[BRAIDPUDDLE_ANSWER_USED]:
- *   4 Packet    what remains of the batch is neither begun by a packet form nor Short: there is no telling where the next packet begins
+ *   4 Packet    what remains of the batch is neither begun by a packet form nor Short: there is no telling where the next packet begins, so
+ *               drop the batch from there on
  *   9 Short     what remains is a proper beginning of a packet form: feed it again with the bytes that follow
  *   5 Full      the packet would open a flow, and capacity flows are open: skip it (braidpuddle_read_packet gives its length), or drain
- *   6 Spent     the record that takes the packet would pass 2^64 - 1 in packets, octets or captured octets
+ *   6 Spent     the record that takes the packet would pass 2^64 - 1 in packets, octets or captured octets: drain, and feed it again
  *   7 Room      the records that the packet finishes need more bytes than the output has left: take the records away and feed the rest
  *               again. BRAIDPUDDLE_ROOM_FOR_ONE(capacity) bytes always suffice for one packet
  */
@@ -340,7 +352,7 @@ uint64_t braidpuddle_feed(uint8_t *state, size_t state_length, const uint8_t *ba
  * state, state_length  a state
  * time_ns              the time, in nanoseconds, on the same scale as the packets' times
  * out, out_length      the output, as in braidpuddle_feed
- * answer               all six numbers are set; packets, bytes used and flows opened are 0
+ * answer               all six numbers are set; packets, bytes used and flows opened are 0, and where it is refused all but the refusal are
  *
  * Refusals, in this order; nothing has left, clock and output stay as they were:
  *   3 Damaged   the state is not sound
@@ -359,7 +371,8 @@ uint64_t braidpuddle_drain(uint8_t *state, size_t state_length, uint8_t *out, si
                            uint64_t answer[BRAIDPUDDLE_ANSWER_NUMBERS]);
 
 /*
- * How many flows are open. It changes nothing, so it also tells whether the bytes are a sound state, for instance one that was saved.
+ * How many flows are open. It changes nothing, so it also tells whether the bytes are a sound state, for instance one that was saved. Sound
+ * is not the same as unchanged: another count may be as sound as the true one. Keep a checksum of your own with a state that you save.
  *
  * state, state_length  a state
  *

@@ -26,10 +26,19 @@ const DAMAGED: u64 = u64::MAX;
 /// A flow meter with room for so many open flows. It owns its state, which is sound at any time: so of the calls on an engine none is
 /// refused with [`Refusal::Damaged`].
 ///
-/// A flow's record has the key of the packet that opened it, and that packet's direction is forward. RST ends a flow with its packet. After FIN
-/// both ways the next packet is counted and ends the flow as Fin; but one with SYN ends it uncounted and opens another. A flow is due once the
-/// latest time seen has reached its latest packet + the timeout + the lesser of one second and half the timeout; the next packet or sweep then
-/// hands it out.
+/// # What becomes of packets
+///
+/// - A flow's record has the key of the packet that opened it, and that packet's direction is forward. The whole key names the flow: where one
+///   direction alone has a VLAN tag, or a MAC address changes on the way, one conversation is two flows.
+/// - A packet with RST is counted and ends its flow, as Rst. Any other packet behind FIN both ways is counted and ends its flow, as Fin; but one
+///   with SYN ends it uncounted, as Fin, and opens another, and ends nothing more. These flags are obeyed for any protocol.
+/// - What comes behind the end is a flow of its own: a second ACK behind both FINs, or data behind RST, opens a record, mostly of one packet.
+/// - Each packet first sweeps at its own time. A flow is due once the latest time seen, of packets and sweeps, has reached its latest packet +
+///   the timeout + the lesser of one second and half the timeout. The packet, of any flow, or the sweep whose time reaches that hands it out
+///   before anything is counted, as Fin if FIN was seen both ways, else as IdleTimeout.
+/// - A late packet counts on its open flow; if it opens a flow that is already due, that one leaves with the next packet or sweep.
+///
+/// # What a call costs
 ///
 /// Each call first checks the whole state, about a tenth of a microsecond for each open flow: feed large batches. A call takes up to about 90
 /// kilobytes of stack.
@@ -116,7 +125,8 @@ impl Engine {
 
     /// An engine that goes on from a state which [`Engine::state`] gave.
     ///
-    /// Refused with [`Refusal::Damaged`] where the bytes are not a sound state.
+    /// Refused with [`Refusal::Damaged`] where the bytes are not a sound state. Sound is not the same as unchanged: another count may be as
+    /// sound as the true one, so keep a checksum of your own with a state that you save.
     ///
     /// ```
     /// use braidpuddle::{Engine, Millis, Refusal, Resolution};
@@ -180,10 +190,11 @@ impl Engine {
     /// flows that end are written one behind another from the output's front.
     ///
     /// A refused packet changes nothing and begins at `batch[fed.used..]`. By its refusal:
-    /// - [`Refusal::Packet`]: no packet form begins there;
+    /// - [`Refusal::Packet`]: no packet form begins there, and there is no telling where the next one does: drop the batch from there on;
     /// - [`Refusal::Short`]: the batch stops in the middle of a packet, which is to be fed again with the bytes that follow;
-    /// - [`Refusal::Full`]: it would open a flow, and the capacity is reached;
-    /// - [`Refusal::Spent`]: a count of its record would pass 64 bits;
+    /// - [`Refusal::Full`]: it would open a flow, and the capacity is reached: skip it ([`Packet::decode`](crate::Packet::decode) tells its
+    ///   length), or drain;
+    /// - [`Refusal::Spent`]: a count of its record would pass 64 bits: drain, and feed it again;
     /// - [`Refusal::Room`]: its records need more than is left of the output: take them away and feed the rest again.
     ///   [`Engine::room_for_one`] bytes always suffice for one packet.
     ///

@@ -1,7 +1,8 @@
 //! A network flow meter: packets go in, flow records come out, one record for each conversation.
 //!
-//! The rules, the byte forms and the refusals are those of document 01; names here are the document's words. The work is done by the
-//! static library `braidpuddle`, which is proved to meet them. This crate lends it memory and gives its numbers types.
+//! The rules, the byte forms and the refusals are those of document 01 (in short: `docs/RULES.md` of the repository); names here are the
+//! document's words. The work is done by the static library `braidpuddle`, which is proved to meet them. This crate lends it memory and
+//! gives its numbers types.
 //!
 //! - [`Engine`] is fed batches of packet forms, swept and drained.
 //! - [`Packet`], [`Key`] and [`Record`] are written as forms and read from them; [`Packets`] and [`Records`] go through many.
@@ -10,7 +11,8 @@
 //!
 //! An engine has no part in another: different engines may be used from different threads at once.
 //!
-//! The library is found at build time in the folder that `BRAIDPUDDLE_LIB` names, else in the repository's `build/lib`.
+//! The library is found at build time in the folder that `BRAIDPUDDLE_LIB` names, else in the repository's `build/lib`, where
+//! `sh tools/library.sh` puts it. Name it by its whole path: another is taken from this crate's folder.
 //!
 //! ```
 //! use braidpuddle::{Engine, Millis, Nanos, Resolution};

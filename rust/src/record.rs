@@ -22,7 +22,7 @@ pub const RECORD_MOST: usize = 358;
 pub enum EndReason {
     /// The flow was due: no packet for the timeout, and the lesser of one second and half the timeout more.
     IdleTimeout = 0,
-    /// FIN was seen both ways, and a packet more, a SYN, a sweep or a drain ended the flow.
+    /// FIN was seen both ways, and a packet more without RST, a SYN, a sweep or a drain ended the flow.
     Fin = 1,
     /// One side reset the connection.
     Rst = 2,
