@@ -4,6 +4,9 @@ use crate::random::Random;
 
 const SECOND: u64 = 1_000_000_000;
 
+/// A time of our age, in nanoseconds since 1970: nine groups as a number.
+const OF_OUR_AGE: u64 = 1_700_000_000 * SECOND;
+
 /// How many of the latest times a deadline is reckoned from.
 const REMEMBERED: usize = 12;
 
@@ -53,6 +56,7 @@ impl Times {
         let timeout = timeout.saturating_mul(1_000_000);
         let near_top = u64::MAX - random.u64() % (10 * SECOND);
         let any = random.u64() >> random.below(64);
+        let of_our_age = OF_OUR_AGE + random.u64() % (1000 * SECOND);
         Times {
             timeout,
             lateness: SECOND.min(timeout / 2),
@@ -63,7 +67,7 @@ impl Times {
             },
             jumps: random.one_of(&[3, 8, 8, 30, 1000]),
             strays: random.one_of(&[20, 200, 1000, 1000]),
-            latest: vec![random.one_of(&[0, any, any, near_top])],
+            latest: vec![random.one_of(&[0, any, any, of_our_age, near_top])],
         }
     }
 
