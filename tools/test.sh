@@ -5,7 +5,6 @@
 set -eu
 cd "$(dirname "$0")/.."
 
-# Cargo's folder lies apart from target/, which `rt ci` removes.
 built=build/compare
 
 say() {
@@ -45,24 +44,24 @@ beside_the_rust() {
     samples_again
     compare test
     tools/compare/run --scripts 2000 --calls 100000 --keys 100000 --seed 1
-    sh tests/replay/run.sh target/bin/replay "$built/release"
+    sh tests/replay/run.sh crates/replay/out/replay "$built/release"
 }
 
 command -v cargo >/dev/null 2>&1 || apt-get install -y cargo
 command -v cc >/dev/null 2>&1 || apt-get install -y gcc
 mkdir -p build
 
-rt fmt --check
-sh tools/edits.sh --look
-# More at a time than there are cores: `rt ci` waits for the slowest of those that it began together.
-RT_JOBS=${RT_JOBS:-4}
-export RT_JOBS
 rt ci 2>&1 | tee build/ci.txt
 last=$(tail -n 1 build/ci.txt)
 case $last in
 *' passed, 0 failed') ;;
 *) exit 1 ;;
 esac
+# `rt ci` passes where the text that an edit changes is gone, or where its new text cannot be read.
+if grep 'BAD EDIT' build/ci.txt; then
+    echo "test: wrong programs that were not tried"
+    exit 1
+fi
 
 sh tools/library.sh >build/library.txt 2>&1 || { tail -n 20 build/library.txt; exit 1; }
 BRAIDPUDDLE_LIB=$(pwd)/build/lib
@@ -77,6 +76,6 @@ if [ -d "$sources" ]; then
     beside_the_rust
 else
     say "the Rust's sources are not at hand: the lists of known answers were replayed as they stand"
-    sh tests/replay/run.sh target/bin/replay
+    sh tests/replay/run.sh crates/replay/out/replay
 fi
 echo "$last"
