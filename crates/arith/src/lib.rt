@@ -1,5 +1,7 @@
 // Arithmetic that the language lacks: the lesser and the greater of two numbers, sums that fit, a product that is held at the
 // top, and the operations on 64-bit words that a shard is made of.
+#![tactic(auto)]
+
 ghost use Rattle.std.specs.Prelude.{◌≡◌, ◌+◌, ◌-◌, ◌*◌, ◌^◌, ◌<◌, min, max, bit_xor, nat_lt};
 ghost use Rattle.arith.specs.Words.{wrapping_mul, rotate_left, shift_right};
 
