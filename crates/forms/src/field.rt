@@ -9,7 +9,7 @@ ghost use Rattle.forms.specs.Raw.{RawAt};
 use crate::number::{NumberAt, read_number, read_u64, wide};
 
 // Where the next field begins, or why there is none.
-#[derive(Drop)]
+#[derive(Clone, Copy)]
 pub enum Next {
     At(usize),
     Short,
@@ -17,7 +17,7 @@ pub enum Next {
 }
 
 // A number that was read, 0 where there is none, and what is next.
-#[derive(Drop)]
+#[derive(Clone, Copy)]
 pub struct NumberField {
     pub value: u64,
     pub next: Next,

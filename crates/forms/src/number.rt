@@ -10,7 +10,7 @@ ghost use Rattle.forms.specs.Nine.{four_more, is_nine, FourMore, FourRead, Nine,
 use crate::place::{Place, write_number};
 
 // What stands at a place: a number and the place behind it, bytes that stop too early, or no number within the bound.
-#[derive(Drop)]
+#[derive(Clone, Copy)]
 pub enum NumberAt {
     Value(u64, usize),
     Short,
@@ -136,7 +136,7 @@ pub fn number_len(v: u64) -> usize
 }
 
 // What reading one number from a buffer answers: the number and the bytes used; Packet, refusal 4; Short, refusal 9.
-#[derive(Drop)]
+#[derive(Clone, Copy)]
 pub enum ReadNumber {
     Value(u64, usize),
     Packet,
@@ -159,7 +159,7 @@ pub fn read_lone_number(s: &[u8], most: u64) -> ReadNumber
 
 // What writing one number into a buffer answers: the bytes written; Packet, refusal 4, for a number above its bound; Room,
 // refusal 7.
-#[derive(Drop)]
+#[derive(Clone, Copy)]
 pub enum WroteNumber {
     Bytes(usize),
     Packet,

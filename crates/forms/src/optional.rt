@@ -5,38 +5,38 @@ ghost use Rattle.forms.specs.Optional.{number8, number16, number32, optional8, o
 
 use crate::field::{Next, number_field};
 
-#[derive(Drop)]
+#[derive(Clone, Copy)]
 pub enum OptU8 {
     Absent,
     Present(u8),
 }
 
-#[derive(Drop)]
+#[derive(Clone, Copy)]
 pub enum OptU16 {
     Absent,
     Present(u16),
 }
 
-#[derive(Drop)]
+#[derive(Clone, Copy)]
 pub enum OptU32 {
     Absent,
     Present(u32),
 }
 
 // An optional number that was read, absent where there is none, and what is next.
-#[derive(Drop)]
+#[derive(Clone, Copy)]
 pub struct OptU8Field {
     pub value: OptU8,
     pub next: Next,
 }
 
-#[derive(Drop)]
+#[derive(Clone, Copy)]
 pub struct OptU16Field {
     pub value: OptU16,
     pub next: Next,
 }
 
-#[derive(Drop)]
+#[derive(Clone, Copy)]
 pub struct OptU32Field {
     pub value: OptU32,
     pub next: Next,

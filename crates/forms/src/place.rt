@@ -6,7 +6,7 @@ ghost use Rattle.forms.specs.Number.{number_bytes};
 ghost use Rattle.forms.specs.Put.{Put};
 
 // Where the next byte goes, or that there was no room.
-#[derive(Drop)]
+#[derive(Clone, Copy)]
 pub enum Place {
     At(usize),
     Full,
