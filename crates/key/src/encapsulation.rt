@@ -2,13 +2,13 @@
 use forms::optional::OptU32;
 
 // The kind of tunnel, by its number, and what tells it from another of its kind. No id is not the same as id 0.
-#[derive(Drop)]
+#[derive(Clone, Copy)]
 pub struct Encapsulation {
     pub kind: u8,
     pub id: OptU32,
 }
 
-#[derive(Drop)]
+#[derive(Clone, Copy)]
 pub enum OptEncapsulation {
     Absent,
     Present(Encapsulation),

@@ -19,37 +19,37 @@ use forms::place::{Place, write_byte, write_number, write_raw2, write_raw4, writ
 
 // ---- reading: a value, of no meaning where there was nothing to read, and what is next
 
-#[derive(Drop)]
+#[derive(Clone, Copy)]
 struct EndpointsField {
     value: Endpoints,
     next: Next,
 }
 
-#[derive(Drop)]
+#[derive(Clone, Copy)]
 struct AddressField {
     value: Address,
     next: Next,
 }
 
-#[derive(Drop)]
+#[derive(Clone, Copy)]
 struct MacField {
     value: MacAddress,
     next: Next,
 }
 
-#[derive(Drop)]
+#[derive(Clone, Copy)]
 struct VlanField {
     value: VlanTags,
     next: Next,
 }
 
-#[derive(Drop)]
+#[derive(Clone, Copy)]
 struct EncapsulationField {
     value: OptEncapsulation,
     next: Next,
 }
 
-#[derive(Drop)]
+#[derive(Clone, Copy)]
 struct KeyField {
     value: FlowKey,
     next: Next,
@@ -302,7 +302,7 @@ fn key_field(s: &[u8], next: Next) -> KeyField
 }
 
 // What stands at a place: a key and the place behind it, bytes that stop too early, or no key.
-#[derive(Drop)]
+#[derive(Clone, Copy)]
 pub enum KeyAt {
     Value(FlowKey, usize),
     Short,
@@ -324,7 +324,7 @@ pub fn read_key_at(s: &[u8], at: usize) -> KeyAt
 }
 
 // What reading one key from a buffer answers: the key and the bytes used; Packet, refusal 4; Short, refusal 9.
-#[derive(Drop)]
+#[derive(Clone, Copy)]
 pub enum ReadKey {
     Value(FlowKey, usize),
     Packet,
@@ -510,7 +510,7 @@ pub fn write_key_at(out: &mut [u8], place: Place, k: FlowKey) -> Place
 }
 
 // What writing one key into a buffer answers: the bytes written; Room, refusal 7.
-#[derive(Drop)]
+#[derive(Clone, Copy)]
 pub enum WroteKey {
     Bytes(usize),
     Room,

@@ -11,7 +11,7 @@ use arith::{rotate_left, shift_right, wrapping_mul, xor};
 use forms::optional::{OptU8, OptU16, OptU32};
 
 // An address: an IPv4 one as one number, an IPv6 one as its high and low halves.
-#[derive(Drop)]
+#[derive(Clone, Copy)]
 pub enum Address {
     V4(u32),
     V6(u64, u64),
@@ -19,7 +19,7 @@ pub enum Address {
 
 // What identifies the two ends of a flow: most protocols have transport ports, and the ones that do not put something else in
 // their place.
-#[derive(Drop)]
+#[derive(Clone, Copy)]
 pub enum Endpoints {
     // TCP, UDP and SCTP.
     Ports { source: u16, destination: u16 },
@@ -31,13 +31,13 @@ pub enum Endpoints {
     None,
 }
 
-#[derive(Drop)]
+#[derive(Clone, Copy)]
 pub struct PortPair {
     pub source: u16,
     pub destination: u16,
 }
 
-#[derive(Drop)]
+#[derive(Clone, Copy)]
 pub enum OptPorts {
     Absent,
     Present(PortPair),
@@ -110,7 +110,7 @@ impl Endpoints {
 
 // Everything that distinguishes one flow from another. The VLAN and the tunnel matter because separate segments routinely
 // reuse the same private ranges.
-#[derive(Drop)]
+#[derive(Clone, Copy)]
 pub struct FlowKey {
     // Address of the endpoint that sent the packet which opened the flow, and the other endpoint.
     pub source: Address,

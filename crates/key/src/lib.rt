@@ -1,4 +1,6 @@
 // What identifies a flow, and its byte form.
+#![tactic(auto)]
+
 pub mod encapsulation;
 pub mod form;
 pub mod key;

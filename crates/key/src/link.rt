@@ -1,7 +1,7 @@
 // Link-layer identity.
 
 // A MAC address, six bytes: the first two and the last four, the first byte highest.
-#[derive(Drop)]
+#[derive(Clone, Copy)]
 pub struct MacAddress {
     pub high: u16,
     pub low: u32,

@@ -1,6 +1,6 @@
 // The VLAN tags a frame arrived carrying, outermost first. Part of flow identity: separate segments routinely use the same
 // addresses.
-#[derive(Drop)]
+#[derive(Clone, Copy)]
 pub enum VlanTags {
     Untagged,
     Single(u16),
