@@ -7,7 +7,7 @@ use crate::range::{OptRange8, OptRange32};
 use forms::optional::{OptU8, OptU16};
 
 // How many packets in one direction carried each TCP control bit.
-#[derive(Drop)]
+#[derive(Clone, Copy)]
 pub struct TcpFlagCounts {
     pub fin: u64,
     pub syn: u64,
@@ -21,7 +21,7 @@ pub struct TcpFlagCounts {
 }
 
 // What one direction of a flow carried.
-#[derive(Drop)]
+#[derive(Clone, Copy)]
 pub struct DirectionStats {
     pub packets: u64,
     pub frame_octets: u64,
@@ -30,7 +30,7 @@ pub struct DirectionStats {
 }
 
 // Network-layer properties observed across the flow.
-#[derive(Drop)]
+#[derive(Clone, Copy)]
 pub struct NetworkStats {
     pub ttl: OptRange8,
     pub dscp: OptU8,
@@ -38,13 +38,13 @@ pub struct NetworkStats {
 }
 
 // ICMP is 256 times its type plus its code.
-#[derive(Drop)]
+#[derive(Clone, Copy)]
 pub struct TransportStats {
     pub icmp: OptU16,
 }
 
 // How much of the traffic the capture actually saw.
-#[derive(Drop)]
+#[derive(Clone, Copy)]
 pub struct CaptureStats {
     pub captured_octets: u64,
     pub truncated: bool,

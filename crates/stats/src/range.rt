@@ -3,25 +3,25 @@
 ghost use Rattle.std.specs.Prelude.{◌≡◌};
 ghost use Rattle.stats.specs.Range.{at32, extended32, widened32, at8, extended8, widened8};
 
-#[derive(Drop)]
+#[derive(Clone, Copy)]
 pub struct Range32 {
     pub min: u32,
     pub max: u32,
 }
 
-#[derive(Drop)]
+#[derive(Clone, Copy)]
 pub enum OptRange32 {
     Absent,
     Present(Range32),
 }
 
-#[derive(Drop)]
+#[derive(Clone, Copy)]
 pub struct Range8 {
     pub min: u8,
     pub max: u8,
 }
 
-#[derive(Drop)]
+#[derive(Clone, Copy)]
 pub enum OptRange8 {
     Absent,
     Present(Range8),

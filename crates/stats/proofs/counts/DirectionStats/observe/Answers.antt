@@ -1,0 +1,5 @@
+-- `stats::counts::DirectionStats::observe` meets its contract: no sum wraps by what is required, and range and flags are what the callees answer. Assumes nothing.
+use Rattle.stats.proofs.counts.DirectionStats.observe.Goals as goal
+
+pub returns : goal.returns
+returns c = cc
