@@ -1,5 +1,5 @@
 -- Counting (document 01): how a record opens, and what one packet adds to it.
-use Rattle.std.specs.Prelude.{ℕ, min, max, ◌+◌, ◌/◌, ◌%◌, ◌^◌, ◌<◌, Bool, false, cond, ◌&&◌, ◌||◌, leb, ltb, eqb}
+use Rattle.std.specs.Prelude.{ℕ, min, max, ◌+◌, ◌/◌, ◌%◌, ◌^◌, ◌<◌, Bool, cond, ◌&&◌, ◌||◌, leb, ltb, eqb}
 use Rattle.forms.specs.declared.optional.OptU8.{OptU8}
 use Rattle.forms.specs.declared.optional.OptU16.{OptU16}
 use Rattle.stats.specs.declared.range.OptRange8.{OptRange8}

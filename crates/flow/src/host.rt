@@ -7,7 +7,7 @@ use crate::sound::sound_aside;
 use crate::time::TimeResolution;
 
 // Document 01's refusals of a packet on a host's own record.
-#[derive(Drop)]
+#[derive(Clone, Copy)]
 pub enum Refusal {
     None,
     Damaged,
@@ -16,14 +16,14 @@ pub enum Refusal {
 }
 
 // What counting a packet answers: the refusal, and the record afterwards, unchanged where it is refused.
-#[derive(Drop)]
+#[derive(Clone, Copy)]
 pub struct Counted {
     pub refusal: Refusal,
     pub flow: FlowRecord,
 }
 
 // What beginning a record answers: the record, or that a field of the packet is out of range.
-#[derive(Drop)]
+#[derive(Clone, Copy)]
 pub enum Begun {
     Record(FlowRecord),
     Packet,

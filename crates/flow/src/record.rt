@@ -11,14 +11,14 @@ use stats::range;
 use stats::range::{OptRange8, OptRange32};
 
 // Which direction of a flow a packet travelled: that of the flow's first packet, or the other one.
-#[derive(Drop)]
+#[derive(Clone, Copy)]
 pub enum Direction {
     Forward,
     Reverse,
 }
 
 // One packet's contribution to a flow. TCP flags are a mask of nine bits, ICMP is 256 times its type plus its code.
-#[derive(Drop)]
+#[derive(Clone, Copy)]
 pub struct PacketFacts {
     pub time: Nanos,
     // Length on the wire, and length actually captured, which is smaller when the capture cut the packet short.
@@ -41,7 +41,7 @@ impl PacketFacts {
 }
 
 // What a flow accumulated. Totals are derived, not stored: a total that cannot be written cannot drift.
-#[derive(Drop)]
+#[derive(Clone, Copy)]
 pub struct FlowRecord {
     pub time: FlowTime,
     pub forward: DirectionStats,

@@ -6,14 +6,14 @@ ghost use Rattle.flow.specs.Idle.{idle_of};
 
 use arith::{greater64, lesser64, million_times, saturating_sub};
 
-#[derive(Drop)]
+#[derive(Clone, Copy)]
 pub struct Millis(pub u64);
 
-#[derive(Drop)]
+#[derive(Clone, Copy)]
 pub struct Nanos(pub u64);
 
 // How long a flow may idle and how late a packet may be, both in nanoseconds. A timeout of 0 is none.
-#[derive(Drop)]
+#[derive(Clone, Copy)]
 pub struct Idle {
     pub timeout: Nanos,
     pub lateness: Nanos,
@@ -38,14 +38,14 @@ impl Idle {
 }
 
 // The finest interval a capture source could distinguish: microseconds, or finer.
-#[derive(Drop)]
+#[derive(Clone, Copy)]
 pub enum TimeResolution {
     Microseconds,
     Nanoseconds,
 }
 
 // How a flow began.
-#[derive(Drop)]
+#[derive(Clone, Copy)]
 pub enum StartState {
     // A TCP handshake was observed from the start.
     SynObserved,
@@ -56,7 +56,7 @@ pub enum StartState {
 }
 
 // Why a flow stopped being tracked.
-#[derive(Drop)]
+#[derive(Clone, Copy)]
 pub enum EndReason {
     IdleTimeout,
     Fin,
@@ -64,14 +64,14 @@ pub enum EndReason {
     CaptureEnd,
 }
 
-#[derive(Drop)]
+#[derive(Clone, Copy)]
 pub enum OptEndReason {
     Absent,
     Present(EndReason),
 }
 
 // When a flow started and stopped, and what those events were. The end reason is absent while the flow is open.
-#[derive(Drop)]
+#[derive(Clone, Copy)]
 pub struct FlowTime {
     pub start: Nanos,
     pub end: Nanos,
