@@ -1,5 +1,5 @@
 -- The packet form in document 01's words: 35 to 103 bytes; what was written is read back; Short and refused exactly when.
-use Rattle.std.specs.Prelude.{ℕ, ◌+◌, ◌^◌, ◌≤◌, ◌<◌, ◌≡◌, refl, List, [], ◌++◌, true, length}
+use Rattle.std.specs.Prelude.{ℕ, ◌^◌, ◌≤◌, ◌<◌, ◌≡◌, refl, List, [], ◌++◌, true, length}
 use Rattle.std.proofs.Common.{arith, ltb-true, lt-ltb, length-append}
 use Rattle.forms.specs.Form.{short, over_is_valid, over_fits, over_ends, pair_ends, pair_first, pair_second, pair_valid}
 use Rattle.forms.specs.Number.{number, number_ends, number_below, below_number}

@@ -1,5 +1,5 @@
 -- The record form in document 01's words: at most 358 bytes; a sound record is read back; Short and Record exactly when.
-use Rattle.std.specs.Prelude.{ℕ, ◌+◌, ◌-◌, ◌^◌, ◌≤◌, ◌<◌, ◌≡◌, refl, List, [], ◌∷◌, ◌++◌, Bool, true, false, cond, ◌&&◌, length}
+use Rattle.std.specs.Prelude.{ℕ, ◌-◌, ◌^◌, ◌≤◌, ◌<◌, ◌≡◌, refl, List, [], ◌∷◌, ◌++◌, Bool, true, false, cond, ◌&&◌, length}
 use Rattle.std.proofs.Common.{sym, ap, ◌∙◌, subst, arith, length-append}
 use Rattle.std.proofs.lemmas.Bool.{false≢true}
 use Rattle.forms.specs.Form.{Read, got, short, refused, and_then, over_is_valid, over_fits, over_ends, one_ends, one_is_valid, pair_ends, pair_first, pair_second, pair_valid, short_begins, begins_short}
@@ -11,7 +11,6 @@ use Rattle.forms.specs.Lone.{value, refusal}
 use Rattle.forms.specs.Theorems.{Beginning, filled}
 use Rattle.forms.specs.declared.optional.OptU8.{OptU8}
 use Rattle.forms.specs.declared.optional.OptU32.{OptU32}
-use Rattle.key.specs.KeyForm.{key}
 use Rattle.key.specs.KeyTheorems.{KeyInRange, key_valid, key_in_range, key_at_most}
 use Rattle.stats.specs.declared.range.OptRange32.{OptRange32}
 use Rattle.stats.specs.declared.range.OptRange8.{OptRange8}

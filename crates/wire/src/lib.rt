@@ -1,4 +1,6 @@
 // The packet form and the record form: what probes hand in and what comes out.
+#![tactic(auto)]
+
 pub mod packet;
 pub mod part;
 pub mod record;

@@ -18,7 +18,7 @@ use key::form::{key_len, write_key_at};
 use key::key::FlowKey;
 
 // What a probe hands in: a packet's contribution, and what it names.
-#[derive(Drop)]
+#[derive(Clone, Copy)]
 pub struct Packet {
     pub facts: PacketFacts,
     pub key: FlowKey,
@@ -26,7 +26,7 @@ pub struct Packet {
 
 // ---- reading
 
-#[derive(Drop)]
+#[derive(Clone, Copy)]
 struct FactsField {
     value: PacketFacts,
     next: Next,
@@ -73,7 +73,7 @@ fn facts_field(s: &[u8], next: Next) -> FactsField
     }
 }
 
-#[derive(Drop)]
+#[derive(Clone, Copy)]
 struct PacketField {
     value: Packet,
     next: Next,
@@ -95,7 +95,7 @@ fn packet_field(s: &[u8], next: Next) -> PacketField
 }
 
 // What stands at a place: a packet's facts and the place behind them, where its key begins.
-#[derive(Drop)]
+#[derive(Clone, Copy)]
 pub enum FactsAt {
     Value(PacketFacts, usize),
     Short,
@@ -117,7 +117,7 @@ pub fn read_facts_at(s: &[u8], at: usize) -> FactsAt
 }
 
 // What stands at a place: a packet and the place behind it, bytes that stop too early, or no packet.
-#[derive(Drop)]
+#[derive(Clone, Copy)]
 pub enum PacketAt {
     Value(Packet, usize),
     Short,
@@ -139,7 +139,7 @@ pub fn read_packet_at(s: &[u8], at: usize) -> PacketAt
 }
 
 // What reading one packet from a buffer answers: the packet and the bytes used; Packet, refusal 4; Short, refusal 9.
-#[derive(Drop)]
+#[derive(Clone, Copy)]
 pub enum ReadPacket {
     Value(Packet, usize),
     Packet,
@@ -231,7 +231,7 @@ fn flags_in_range(flags: OptU16) -> bool
 
 // What writing one packet into a buffer answers: the bytes written; Packet, refusal 4, for a field out of range; Room,
 // refusal 7.
-#[derive(Drop)]
+#[derive(Clone, Copy)]
 pub enum WrotePacket {
     Bytes(usize),
     Packet,

@@ -11,7 +11,7 @@ use key::link::MacAddress;
 use key::vlan::VlanTags;
 
 // A key that was read, of no meaning where there is none, and what is next.
-#[derive(Drop)]
+#[derive(Clone, Copy)]
 pub(crate) struct KeyField {
     pub value: FlowKey,
     pub next: Next,

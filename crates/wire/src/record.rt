@@ -28,7 +28,7 @@ use stats::counts::{CaptureStats, DirectionStats, NetworkStats, TcpFlagCounts, T
 use stats::range::{OptRange8, OptRange32, Range8, Range32};
 
 // A flow: what identifies it, alongside what it accumulated.
-#[derive(Drop)]
+#[derive(Clone, Copy)]
 pub struct Flow {
     pub key: FlowKey,
     pub record: FlowRecord,
@@ -36,7 +36,7 @@ pub struct Flow {
 
 // ---- the form's fields, where they are not yet known to make a record: the bounds of a range may be there one without the other
 
-#[derive(Drop)]
+#[derive(Clone, Copy)]
 pub struct HeadFields {
     pub reason: EndReason,
     pub state: StartState,
@@ -45,7 +45,7 @@ pub struct HeadFields {
     pub end: u64,
 }
 
-#[derive(Drop)]
+#[derive(Clone, Copy)]
 pub struct DirectionFields {
     pub packets: u64,
     pub frame_octets: u64,
@@ -54,7 +54,7 @@ pub struct DirectionFields {
     pub flags: TcpFlagCounts,
 }
 
-#[derive(Drop)]
+#[derive(Clone, Copy)]
 pub struct TailFields {
     pub least_ttl: OptU8,
     pub greatest_ttl: OptU8,
@@ -65,7 +65,7 @@ pub struct TailFields {
     pub truncated: bool,
 }
 
-#[derive(Drop)]
+#[derive(Clone, Copy)]
 pub struct RecordFields {
     pub head: HeadFields,
     pub forward: DirectionFields,
@@ -169,7 +169,7 @@ fn schema_field(s: &[u8], next: Next) -> Next
     refusal(behind)
 }
 
-#[derive(Drop)]
+#[derive(Clone, Copy)]
 struct HeadField {
     value: HeadFields,
     next: Next,
@@ -201,7 +201,7 @@ fn head_field(s: &[u8], next: Next) -> HeadField
     }
 }
 
-#[derive(Drop)]
+#[derive(Clone, Copy)]
 struct FlagsField {
     value: TcpFlagCounts,
     next: Next,
@@ -245,7 +245,7 @@ fn flags_field(s: &[u8], next: Next) -> FlagsField
     }
 }
 
-#[derive(Drop)]
+#[derive(Clone, Copy)]
 struct DirectionField {
     value: DirectionFields,
     next: Next,
@@ -279,7 +279,7 @@ fn direction_field(s: &[u8], next: Next) -> DirectionField
     }
 }
 
-#[derive(Drop)]
+#[derive(Clone, Copy)]
 struct TailField {
     value: TailFields,
     next: Next,
@@ -321,7 +321,7 @@ fn tail_field(s: &[u8], next: Next) -> TailField
     }
 }
 
-#[derive(Drop)]
+#[derive(Clone, Copy)]
 struct FieldsField {
     value: RecordFields,
     next: Next,
@@ -488,7 +488,7 @@ fn flow_from(w: RecordFields) -> Flow
 }
 
 // What reading one record answers: the flow and the place behind it; Record, refusal 8; Short, refusal 9.
-#[derive(Drop)]
+#[derive(Clone, Copy)]
 pub enum ReadRecord {
     Value(Flow, usize),
     Record,
@@ -715,7 +715,7 @@ pub fn write_record_at(out: &mut [u8], place: Place, f: Flow) -> Place
 }
 
 // What writing one record into a buffer answers: the bytes written; Damaged, refusal 3; Room, refusal 7.
-#[derive(Drop)]
+#[derive(Clone, Copy)]
 pub enum WroteRecord {
     Bytes(usize),
     Damaged,
