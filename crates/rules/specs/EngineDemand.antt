@@ -1,7 +1,6 @@
--- The mission's third demand, of the engine: through every sequence of calls from a fresh one. `third_demand`, at the end. Assumes
--- nothing.
+-- The mission's third demand, of the engine, as a record `ThirdDemand`: through every sequence of calls from a fresh one. Its proof,
+-- `third_demand`, stands in proofs/EngineDemandLaws.antt. Assumes nothing.
 use Rattle.std.specs.Prelude.{◌≡◌, List, [], ◌∷◌, ◌++◌, map, ℕ, ◌+◌, ◌<◌, length}
-use Rattle.std.proofs.Common.{◌∙◌, arith}
 use Rattle.flow.specs.Summary.{Flag, packets_of, octets_of, flags_of}
 use Rattle.flow.specs.declared.record.FlowRecord.{FlowRecord}
 use Rattle.wire.specs.declared.packet.Packet.{Packet}
@@ -10,8 +9,8 @@ use Rattle.rules.specs.Rules.{Terms, Accepted, Settings, one_packet, sweep_at, t
 use Rattle.rules.specs.Engine.{engine}
 use Rattle.rules.specs.Ledger.{ledger, flow_s, finished_s}
 use Rattle.rules.specs.Account.{of_flow, of_finished, FlowBelow, FinishedBelow}
-use Rattle.rules.specs.Demand.{Call, Run, started, run, chronicle, Counts, is_number, latest_of, due_records, HandsOut, next_one, named_taker, Placed, demand}
-use Rattle.rules.specs.EngineLaws.{engine_timed, packet_tally, octet_tally, octets_in, flag_tally, flag_in}
+use Rattle.rules.specs.Demand.{Call, Run, started, run, chronicle, Counts, is_number, latest_of, due_records, HandsOut, next_one, named_taker, Placed}
+use Rattle.rules.specs.EngineLaws.{octets_in, flag_in}
 
 -- the ledger: the rules with each flow holding its story, the numbered packets that it took in order of acceptance
 abbrev pub ledgers : Terms
@@ -61,29 +60,3 @@ module _ (s : Settings) (calls : List (Call Packet)) where
     -- The clock is the latest time seen; with timeout 0 it stays at 0.
     pub clock : 0 < s.T → engine_run.engine.clock ≡ latest_of engine_run.times
     pub no_clock : s.T ≡ 0 → engine_run.engine.clock ≡ 0
-
-  ones : {A : Type 0} (l : List A) → total (λ _. 1) l ≡ length l
-  ones [] = omega arith
-  ones (x ∷ l) = omega (arith, ones l)
-
-  pub third_demand : ThirdDemand
-  unfolding packet_tally octet_tally flag_tally
-  third_demand =
-      let d = demand engine s calls in
-      record {
-        numbers = d.numbers;
-        exactly_one = d.exactly_one;
-        placed = d.placed;
-        open_in_order = d.open_in_order;
-        finished_in_order = d.finished_in_order;
-        open_records = λ i. (d.summaries i).engine.flows;
-        finished_records = λ i. (d.summaries i).finished;
-        accepted_packets = λ i. (d.summaries i).accepted;
-        packets = d.totals packet_tally ∙ ones engine_run.accepted;
-        octets = d.totals octet_tally;
-        flags = λ k. d.totals (flag_tally k);
-        sweeps = d.sweeps engine_timed;
-        packet_sweeps = d.packet_sweeps engine_timed;
-        clock = d.clock;
-        no_clock = d.no_clock;
-      }

@@ -3,10 +3,10 @@ pub mod Rules
 pub mod Engine
 pub mod Due
 pub mod Totals
+pub mod Spelled
 pub mod Ledger
 pub mod Account
 pub mod Demand
-pub mod Spelled
 pub mod Table
 pub mod Laws
 pub mod Slots

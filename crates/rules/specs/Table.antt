@@ -1,8 +1,7 @@
--- Document 01's "Examples on each side", P1 to P11, as one statement over a table, `examples_hold`; and rows of ours, `further_hold`. Each row opens an
--- engine, makes calls, and says after each call what was answered and which flows are open. Assumes nothing.
-use Rattle.std.proofs.Common.{subst}
-use Rattle.std.specs.Prelude.{Bool, true, false, ◌&&◌, List, [], ◌∷◌, ℕ, zero, suc, ◌+◌, ◌-◌, ◌^◌, T, eqb, length}
-use Rattle.forms.specs.Number.{number_bytes, groups}
+-- Document 01's "Examples on each side", P1 to P11, as a table, `examples`; and rows of ours, `further`. Each row opens an engine,
+-- makes calls, and says after each call what was answered and which flows are open. That all pass stands in proofs/TableLaws.antt.
+-- Assumes nothing.
+use Rattle.std.specs.Prelude.{Bool, true, false, ◌&&◌, List, [], ◌∷◌, ℕ, zero, suc, ◌+◌, ◌-◌, ◌^◌, eqb, length}
 use Rattle.forms.specs.declared.optional.OptU8.{OptU8}
 use Rattle.forms.specs.declared.optional.OptU16.{OptU16}
 use Rattle.key.specs.declared.key.Address.{Address}
@@ -12,7 +11,7 @@ use Rattle.key.specs.declared.vlan.VlanTags.{VlanTags}
 use Rattle.key.specs.declared.encapsulation.OptEncapsulation.{OptEncapsulation}
 use Rattle.stats.specs.declared.range.OptRange8.{OptRange8}
 use Rattle.stats.specs.declared.range.OptRange32.{OptRange32}
-use Rattle.flow.specs.Counting.{opening_time, opened_of, counted_rest, taken, counted_of, has_room, closed}
+use Rattle.flow.specs.Counting.{opening_time}
 use Rattle.flow.specs.Idle.{timeout_of}
 use Rattle.flow.specs.declared.time.EndReason.{EndReason}
 use Rattle.flow.specs.declared.time.EndReason.TheVariants.{IdleTimeout, Fin, Rst, CaptureEnd}
@@ -23,11 +22,9 @@ use Rattle.flow.specs.declared.record.FlowRecord.{FlowRecord}
 use Rattle.wire.specs.declared.packet.Packet.{Packet}
 use Rattle.wire.specs.RecordForm as RecordForm
 use Rattle.rules.specs.Order.{equal}
-use Rattle.rules.specs.Totals.{All}
 use Rattle.rules.specs.Rules.{Terms, Refusal, Accepted, BadPacket, Short, Full, Spent, Room, number_of, Settings, settings}
-use Rattle.rules.specs.Rules.{Flow, Finished, Engine, fresh, Told, one_packet, feed_all, sweep_at, drain_all}
+use Rattle.rules.specs.Rules.{Flow, Finished, Engine, fresh, Told, feed_all, sweep_at, drain_all}
 use Rattle.rules.specs.Engine.{engine_by, key_bytes, record_size}
-use Rattle.rules.specs.Spelled.{key_spelled, keys_spelled, size_spelled, sizes_spelled}
 
 -- ## What a row says
 
@@ -114,7 +111,7 @@ module _ (bytes : FlowKey → List ℕ) (size : FlowKey → EndReason → FlowRe
   passes_by (from ms capacity clock flows steps) = plays_out (opened_with ms capacity) steps (record { clock = clock; flows = flows_of flows })
   passes_by (holds ms t) = eqb (timeout_of (record { 0 = ms })) t
 
-  abbrev all_by : List Row → Bool
+  abbrev pub all_by : List Row → Bool
   all_by [] = true
   all_by (r ∷ rs) = passes_by r && all_by rs
 
@@ -363,36 +360,3 @@ further =
     ∷ plays 1000 8 (stops ample (ack 0 1 2 ∷ ack 1 2 1 ∷ []) BadPacket BadPacket 2 1 [] (2 ∷ []) 1 ∷ [])
     ∷ plays 1000 8 (stops ample (ack 0 1 2 ∷ []) Short Short 1 1 [] (1 ∷ []) 0 ∷ stops ample [] Accepted Accepted 0 0 [] (1 ∷ []) 0 ∷ [])
     ∷ []
-
--- ## They hold
-
-examples_computed : T (all_by key_spelled size_spelled examples)
-unfolding examples one_packet feed_all sweep_at drain_all opened_of counted_rest taken counted_of has_room closed number_bytes groups
-examples_computed = tt
-
-further_computed : T (all_by key_spelled size_spelled further)
-unfolding further one_packet feed_all sweep_at drain_all opened_of counted_rest taken counted_of has_room closed number_bytes groups
-further_computed = tt
-
--- the key form and the record form are what they are spelled
-as_spelled : (rows : List Row) → T (all_by key_spelled size_spelled rows) → T (all_pass rows)
-as_spelled rows t =
-    subst (λ (size : FlowKey → EndReason → FlowRecord → ℕ). T (all_by key_bytes size rows)) sizes_spelled
-    (subst (λ (bytes : FlowKey → List ℕ). T (all_by bytes size_spelled rows)) keys_spelled t)
-
--- P1 to P11: every row plays out on the engine as it says
-pub examples_hold : T (all_pass examples)
-examples_hold = as_spelled examples examples_computed
-
--- and so do ours
-pub further_hold : T (all_pass further)
-further_hold = as_spelled further further_computed
-
-pub both_hold : (a b : Bool) → T (a && b) → T a × T b
-both_hold true b t = (tt, t)
-both_hold false b t = absurd t
-
--- where all of a table's rows pass, each does
-pub each_row : (rows : List Row) → T (all_pass rows) → All (λ r. T (passes r)) rows
-each_row [] t = tt
-each_row (r ∷ rs) t = let h = both_hold (passes r) (all_pass rs) t in (h.0, each_row rs h.1)

@@ -1,4 +1,6 @@
 // The plain rules in specs/; of the code, the sweep's test on numbers.
+#![tactic(auto)]
+
 ghost use Rattle.std.specs.Prelude.{◌≡◌};
 ghost use Rattle.rules.specs.Due.{idle};
 

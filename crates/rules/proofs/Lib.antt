@@ -1,0 +1,13 @@
+pub mod LedgerLaws
+pub mod AccountLaws
+pub mod DemandLaws
+pub mod TableLaws
+pub mod OrderLaws
+pub mod SlotsLaws
+pub mod LoopLaws
+pub mod SoundLaws
+pub mod EngineTermsLaws
+pub mod EngineSoundLaws
+pub mod EngineDemandLaws
+pub mod EngineSlotsLaws
+pub mod BatchLaws
