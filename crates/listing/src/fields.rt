@@ -1,21 +1,21 @@
 // Taking a line of the list apart. Every function here answers for any bytes at all.
 
 // A number in decimal.
-#[derive(Drop)]
+#[derive(Clone, Copy)]
 pub enum Decimal {
     Value(u64),
     Bad,
 }
 
 // Bytes in hex: how many were put into the room given.
-#[derive(Drop)]
+#[derive(Clone, Copy)]
 pub enum Hex {
     Bytes(usize),
     Bad,
 }
 
 // A single byte in hex.
-#[derive(Drop)]
+#[derive(Clone, Copy)]
 enum Byte {
     Value(u8),
     Bad,

@@ -1,7 +1,8 @@
 // Reading the list from standard input, a line at a time.
+use std::io::{Read, Stdin};
 
 // What the last call found: nothing more, a line, or that the list cannot be read.
-#[derive(Drop)]
+#[derive(Clone, Copy)]
 pub enum Found {
     Nothing,
     Line,
@@ -9,7 +10,7 @@ pub enum Found {
 }
 
 // How far the list is read. The caller keeps the bytes that came last, and room for a line, beside it.
-#[derive(Drop)]
+#[derive(Clone, Copy)]
 pub struct Input {
     // Those bytes that are not taken yet.
     at: usize,
@@ -97,25 +98,25 @@ impl Input {
 }
 
 // Puts the next line at the start of `line`. What does not fit is cut off.
-pub fn next_line(chunk: &mut [u8], line: &mut [u8], before: Input) -> Input {
+pub fn next_line(stdin: Stdin, chunk: &mut [u8], line: &mut [u8], before: Input) -> Input {
     let mut input = before.begun();
     // A proved loop has to end, and nothing says that the input does. No run uses these turns up.
     let mut turns = u64::MAX;
     while 0 < turns && input.unfinished {
-        input = step(chunk, line, input);
+        input = step(stdin, chunk, line, input);
         turns -= 1;
     }
     input
 }
 
 // Takes one byte, or reads more of them where all are taken.
-fn step(chunk: &mut [u8], line: &mut [u8], input: Input) -> Input {
+fn step(stdin: Stdin, chunk: &mut [u8], line: &mut [u8], input: Input) -> Input {
     let at = input.at;
     if input.end <= at {
-        return refill(chunk, input);
+        return refill(stdin, chunk, input);
     }
     if chunk.len() <= at {
-        return refill(chunk, input);
+        return refill(stdin, chunk, input);
     }
     take_byte(chunk[at], line, input, at + 1)
 }
@@ -134,13 +135,13 @@ fn take_byte(byte: u8, line: &mut [u8], input: Input, taken: usize) -> Input {
 }
 
 // Reads once. The last line may lack its end.
-fn refill(chunk: &mut [u8], input: Input) -> Input {
-    let got = libc::read(libc::STDIN_FILENO, chunk);
-    if got < 0 {
+fn refill(stdin: Stdin, chunk: &mut [u8], input: Input) -> Input {
+    let mut from = stdin;
+    let Ok(got) = from.read(chunk) else {
         return input.over(Found::Failure);
-    }
+    };
     if 0 < got {
-        return input.refilled(io::count(got, chunk));
+        return input.refilled(got);
     }
     if input.filled == 0 {
         input.over(Found::Nothing)

@@ -1,6 +1,7 @@
 // Whether our own line is the list's.
 use crate::fields::part;
 use crate::line::print;
+use std::io::Stdout;
 
 // The first byte of a line. An empty line has the kind 0, which is none.
 pub fn kind_of(line: &[u8]) -> u8 {
@@ -9,15 +10,15 @@ pub fn kind_of(line: &[u8]) -> u8 {
 
 // Whether our line, which is `ours` up to `end`, is the list's. Where it is not, it is printed. One that fills its room may be
 // cut off, and never agrees.
-pub fn agree(line: &[u8], ours: &[u8], end: usize) -> bool {
+pub fn agree(stdout: Stdout, line: &[u8], ours: &[u8], end: usize) -> bool {
     let made = part(ours, 0, end);
     if end < ours.len() {
         if check::same(line, made) {
             return true;
         }
     }
-    print(b"differs: ");
-    print(made);
-    print(b"\n");
+    print(stdout, b"differs: ");
+    print(stdout, made);
+    print(stdout, b"\n");
     false
 }

@@ -1,5 +1,6 @@
 // Putting a line together. Each function puts something into out at a place and answers the place
 // behind it. What does not fit is cut off, and the place is then the end of out.
+use std::io::Stdout;
 
 pub fn put(out: &mut [u8], from: usize, text: &[u8]) -> usize {
     let mut at = from;
@@ -63,6 +64,7 @@ pub fn unreadable(line: &[u8], out: &mut [u8]) -> usize {
     put(out, at, line)
 }
 
-pub fn print(text: &[u8]) {
-    io::write_all(libc::STDOUT_FILENO, text);
+// A write that fails ends nothing here: what is missing from the output shows it.
+pub fn print(stdout: Stdout, text: &[u8]) {
+    let _ = stdout.write_all(text);
 }

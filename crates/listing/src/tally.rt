@@ -1,5 +1,6 @@
 // Counting the lines, and saying how many there were.
 use crate::line::print;
+use std::io::Stdout;
 
 // No list is so long that a count ends at the top.
 pub fn one_more(n: u64) -> u64 {
@@ -15,17 +16,17 @@ pub fn more(n: u64, by: u64) -> u64 {
 }
 
 // A count, behind its name.
-pub fn print_count(name: &[u8], n: u64) {
-    print(name);
-    io::print_decimal(libc::STDOUT_FILENO, n);
+pub fn print_count(stdout: Stdout, name: &[u8], n: u64) {
+    print(stdout, name);
+    let _ = print!(stdout; "{n}");
 }
 
 // How many of all lines differ: the end of the summary.
-pub fn print_verdict(differ: u64) {
+pub fn print_verdict(stdout: Stdout, differ: u64) {
     if differ == 0 {
-        print(b": all agree\n");
+        print(stdout, b": all agree\n");
     } else {
-        print_count(b": ", differ);
-        print(b" differ\n");
+        print_count(stdout, b": ", differ);
+        print(stdout, b" differ\n");
     }
 }
