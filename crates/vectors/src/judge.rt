@@ -3,19 +3,20 @@ use crate::tally::Tally;
 use crate::{keys, numbers};
 use listing::judge::{agree, kind_of};
 use listing::line::unreadable;
+use std::io::Stdout;
 
 // Room for a line, and for ours: about twice what the longest takes.
 pub const MOST_LINE: usize = 1024;
 
 // Counts a line, unless it is a comment.
-pub fn take_line(line: &[u8], tally: Tally) -> Tally {
+pub fn take_line(stdout: Stdout, line: &[u8], tally: Tally) -> Tally {
     let kind = kind_of(line);
     if kind == b'#' {
         return tally;
     }
     let mut ours = [0u8; MOST_LINE];
     let end = our_line(line, kind, &mut ours);
-    let agrees = agree(line, &ours, end);
+    let agrees = agree(stdout, line, &ours, end);
     tally.count(kind, agrees)
 }
 

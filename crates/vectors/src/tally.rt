@@ -1,8 +1,9 @@
 // How many lines of each kind there were, and how many of all differ.
 use listing::line::print as say;
 use listing::tally::{one_more, print_count, print_verdict};
+use std::io::Stdout;
 
-#[derive(Drop)]
+#[derive(Clone, Copy)]
 pub struct Tally {
     pub numbers: u64,
     pub refusals: u64,
@@ -46,16 +47,16 @@ impl Tally {
     }
 }
 
-pub fn print(tally: Tally) {
+pub fn print(stdout: Stdout, tally: Tally) {
     if is_empty(tally) {
-        say(b"no lines\n");
+        say(stdout, b"no lines\n");
         return;
     }
-    print_count(b"numbers ", tally.numbers);
-    print_count(b", refusals ", tally.refusals);
-    print_count(b", keys ", tally.keys);
-    print_count(b", cuts ", tally.cuts);
-    print_verdict(tally.differ);
+    print_count(stdout, b"numbers ", tally.numbers);
+    print_count(stdout, b", refusals ", tally.refusals);
+    print_count(stdout, b", keys ", tally.keys);
+    print_count(stdout, b", cuts ", tally.cuts);
+    print_verdict(stdout, tally.differ);
 }
 
 fn is_empty(tally: Tally) -> bool {
