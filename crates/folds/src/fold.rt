@@ -11,7 +11,7 @@ use wire::packet::{Packet, PacketAt, read_packet_at};
 use wire::record::{Flow, ReadRecord, read_record};
 
 // The flow that the packets so far make, if they make one.
-#[derive(Drop)]
+#[derive(Clone, Copy)]
 enum Held {
     Nothing,
     Flow(Flow),
@@ -19,7 +19,7 @@ enum Held {
 }
 
 // How far the packets are counted: where the next one stands in the batch, and where our line ends.
-#[derive(Drop)]
+#[derive(Clone, Copy)]
 struct Folding {
     held: Held,
     at: usize,

@@ -1,7 +1,7 @@
 // Our own line, as far as it is made.
 use listing::line::{put, put_hex};
 
-#[derive(Drop)]
+#[derive(Clone, Copy)]
 pub struct Made {
     // Where the line ends.
     pub end: usize,

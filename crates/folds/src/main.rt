@@ -2,6 +2,8 @@
 //
 // For each line our own line is made from the fields that ask, and the two are compared byte for byte. What the lines mean is
 // said at the top of the list, which is the file stdin beside src/.
+#![tactic(auto)]
+
 mod cuts;
 mod fold;
 mod judge;
@@ -14,35 +16,38 @@ mod totals;
 use judge::take_line;
 use listing::fields::part;
 use listing::input::{Found, Input, next_line};
+use std::io::{Stdin, Stdout};
 use tally::Tally;
 
-fn main() {
+fn main(rt: HostRuntime) {
     let mut chunk = io::buffer();
     let mut line = [0u8; judge::MOST_LINE];
-    tally::print(replay(&mut chunk, &mut line));
+    let stdout = rt.stdout();
+    let tally = replay(rt.stdin(), stdout, &mut chunk, &mut line);
+    tally::print(stdout, tally);
 }
 
 // Takes the whole list, a line at a time. A line that does not fit into `line` is cut off, and never counts as one that agrees.
-fn replay(chunk: &mut [u8], line: &mut [u8]) -> Tally {
+fn replay(stdin: Stdin, stdout: Stdout, chunk: &mut [u8], line: &mut [u8]) -> Tally {
     let mut input = Input::new();
     let mut tally = Tally::new();
     // A proved loop has to end, and nothing says that the input does. No run uses these turns up.
     let mut turns = u64::MAX;
     while 0 < turns && input.more {
-        input = next_line(chunk, line, input);
-        tally = take_found(line, input, tally);
+        input = next_line(stdin, chunk, line, input);
+        tally = take_found(stdout, line, input, tally);
         turns -= 1;
     }
     tally
 }
 
-fn take_found(line: &[u8], input: Input, tally: Tally) -> Tally {
+fn take_found(stdout: Stdout, line: &[u8], input: Input, tally: Tally) -> Tally {
     let found = input.found;
     match found {
         Found::Nothing => tally,
-        Found::Line => take_line(part(line, 0, input.filled), tally),
+        Found::Line => take_line(stdout, part(line, 0, input.filled), tally),
         Found::Failure => {
-            listing::line::print(b"differs: the list cannot be read\n");
+            listing::line::print(stdout, b"differs: the list cannot be read\n");
             tally.count(0, false, 0)
         }
     }

@@ -1,8 +1,9 @@
 // How many lines of each kind there were, how many cuts of their forms, and how many lines of all differ.
 use listing::line::print as say;
 use listing::tally::{more, one_more, print_count, print_verdict};
+use std::io::Stdout;
 
-#[derive(Drop)]
+#[derive(Clone, Copy)]
 pub struct Tally {
     pub packets: u64,
     pub folds: u64,
@@ -54,18 +55,18 @@ impl Tally {
     }
 }
 
-pub fn print(tally: Tally) {
+pub fn print(stdout: Stdout, tally: Tally) {
     if is_empty(tally) {
-        say(b"no lines\n");
+        say(stdout, b"no lines\n");
         return;
     }
-    print_count(b"packets ", tally.packets);
-    print_count(b", folds ", tally.folds);
-    print_count(b", totals ", tally.totals);
-    print_count(b", records ", tally.records);
-    print_count(b", refusals ", tally.refusals);
-    print_count(b", cuts ", tally.cuts);
-    print_verdict(tally.differ);
+    print_count(stdout, b"packets ", tally.packets);
+    print_count(stdout, b", folds ", tally.folds);
+    print_count(stdout, b", totals ", tally.totals);
+    print_count(stdout, b", records ", tally.records);
+    print_count(stdout, b", refusals ", tally.refusals);
+    print_count(stdout, b", cuts ", tally.cuts);
+    print_verdict(stdout, tally.differ);
 }
 
 fn is_empty(tally: Tally) -> bool {
