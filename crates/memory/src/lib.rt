@@ -1,4 +1,6 @@
 // Numbers in lent memory: little-endian, at a byte offset.
+#![tactic(auto)]
+
 ghost use Rattle.std.specs.Prelude.{◌≡◌, ◌+◌, ◌*◌, ◌≤◌, length, replicate};
 ghost use Rattle.memory.specs.Bytes.{num, le, part, patch, bytes_of, words_at};
 
