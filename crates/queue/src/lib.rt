@@ -1,5 +1,7 @@
 // The expiry queue: a tournament tree of least due times over the slots, in lent memory. Node 1 is the root, node k has
 // the children 2k and 2k + 1, and slot i's due time is node capacity + i. A node is eight bytes.
+#![tactic(auto)]
+
 ghost use Rattle.std.specs.Prelude.{◌≡◌, ◌+◌, ◌*◌, ◌≤◌, ◌<◌, length};
 ghost use Rattle.memory.specs.Decides.{Decides};
 ghost use Rattle.queue.specs.Tree.{node, with_node, Sound, DueSet, LeastDue, Refreshed};
@@ -9,7 +11,7 @@ use arith::lesser64;
 // The due time of a slot that is in no queue.
 pub const NEVER: u64 = 0xffff_ffff_ffff_ffff;
 
-#[derive(Drop)]
+#[derive(Clone, Copy)]
 pub enum Found {
     At(usize),
     Nothing,

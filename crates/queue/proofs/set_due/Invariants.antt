@@ -1,0 +1,9 @@
+use Rattle.queue.specs.Turns.{turns, climbs}
+use Rattle.queue.proofs.Laws.{Climb, climb_begins, climb_goes_on, climb_ends}
+use Rattle.queue.proofs.set_due.Given as goal
+
+abbrev pub invariant-loop-k : goal.invariant-loop-k
+invariant-loop-k l = Climb l.initial.tree l.capacity l.k l.tree
+
+abbrev pub decreases-loop-k : goal.decreases-loop-k
+decreases-loop-k l = turns l.k
