@@ -1,10 +1,12 @@
 // The flow table: slots of 624 bytes behind a header of 256, in lent memory. Byte 0 of a slot is 1 where it is used,
 // byte 1 is its key's length, and the key follows.
+#![tactic(auto)]
+
 ghost use Rattle.std.specs.Prelude.{◌≡◌, ◌∷◌, [], ◌+◌, ◌*◌, ◌≤◌, length};
 ghost use Rattle.memory.specs.Bytes.{patch};
 ghost use Rattle.slots.specs.Table.{slot, key_of};
 
-#[derive(Drop)]
+#[derive(Clone, Copy)]
 pub enum Found {
     At(usize),
     Nothing,
