@@ -1,6 +1,8 @@
 // Where to begin a search for a key: an index of the table's slots by their keys' hash, in memory that the caller lends.
 // A place is 0 (empty) or an entry: 19 bits of the key's hash, and the slot. When an entry leaves, those behind it move up, so
 // the places taken are those of the used slots and no more.
+#![tactic(auto)]
+
 ghost use Rattle.std.specs.Prelude.{◌≡◌, ◌+◌, ◌*◌, ◌≤◌, ◌<◌, length};
 ghost use Rattle.memory.specs.Decides.{Decides};
 ghost use Rattle.slots.specs.Table.{slot, slots, holds, first_where, NoKeyTwice};
