@@ -2,10 +2,10 @@
 use Prim.Native.Nat.{ℕ, ◌+◌, ◌-◌, ◌*◌, ◌^◌, ◌≤◌, ◌<◌}
 use mathlib.Core.Path.{◌≡◌, refl, sym, ap, ◌∙◌}
 use mathlib.Core.List.{List, [], ◌∷◌}
-use mathlib.Core.Bool.{Bool, true, false, not, ◌&&◌}
+use mathlib.Core.Bool.{Bool, true, false, ◌&&◌}
 use native.Mathlib.Omega.{arith}
 use lib.Dec.{ltb, leb, eqb}
-use borrow.Author.Tests.{not-true, not-false, ltb-true, leb-true, eqb-true, lt-ltb, le-leb, lt-leb}
+use borrow.Author.Tests.{ltb-true, leb-true, eqb-true, lt-ltb, le-leb, lt-leb}
 use lib.ListN.{length, get_or}
 use denote.Enum.Declared.{tag_of}
 use types.Run.{OneOf, miss}
@@ -67,13 +67,13 @@ module _ (s : List ℕ) (at : ℕ) where
     pub none : get_or s (at + 1) 0 ≡ 0
     pub ports : get_or s (at + 2) 0 ≡ 1
 
-  pub head_says : {r : Bool} → r ≡ head_is_plain s at → not r ≡ false → Head
+  pub head_says : {r : Bool} → r ≡ head_is_plain s at → r ≡ true → Head
   unfolding head_is_plain
   head_says {r} e n =
       let a = ltb (get_or s at 0) 128 in
       let b = eqb (get_or s (at + 1) 0) 0 in
       let c = eqb (get_or s (at + 2) 0) 1 in
-      let (room, e₁) = both_true (leb (at + 29) (length s)) (a && b && c) (sym e ∙ not-false r n) in
+      let (room, e₁) = both_true (leb (at + 29) (length s)) (a && b && c) (sym e ∙ n) in
       let (e₂, v) = both_true (a && b) c e₁ in
       let (t, u) = both_true a b e₂ in
       record { room = leb-true _ _ room; small = ltb-true _ _ t; none = eqb-true _ _ u; ports = eqb-true _ _ v }
@@ -85,14 +85,14 @@ module _ (s : List ℕ) (at : ℕ) where
     pub untagged : get_or s (at + 22) 0 ≡ 0
     pub no_tunnel : get_or s (at + 23) 0 ≡ 0
 
-  pub tail_says : {r : Bool} → r ≡ tail_is_plain s at → not r ≡ false → Tail
+  pub tail_says : {r : Bool} → r ≡ tail_is_plain s at → r ≡ true → Tail
   unfolding tail_is_plain
   tail_says {r} e n =
       let a = eqb (get_or s at 0) 4 in
       let b = eqb (get_or s (at + 5) 0) 4 in
       let c = eqb (get_or s (at + 22) 0) 0 in
       let d = eqb (get_or s (at + 23) 0) 0 in
-      let (room, e₁) = both_true (leb (at + 24) (length s)) (a && b && c && d) (sym e ∙ not-false r n) in
+      let (room, e₁) = both_true (leb (at + 24) (length s)) (a && b && c && d) (sym e ∙ n) in
       let (e₂, w) = both_true (a && b && c) d e₁ in
       let (e₃, v) = both_true (a && b) c e₂ in
       let (t, u) = both_true a b e₃ in
@@ -164,9 +164,9 @@ no_value NumberAt.Refused v n other e = let z : ◌≡◌ {A = ℕ} 0 1 = cc in 
 -- ---- the ways out of plain_at: something else
 
 module _ (s : List ℕ) (at : ℕ) where
-  pub other_head : {r : Bool} → r ≡ head_is_plain s at → not r ≡ true → PlainAt.Other ≡ plain_at s at
+  pub other_head : {r : Bool} → r ≡ head_is_plain s at → r ≡ false → PlainAt.Other ≡ plain_at s at
   other_head {r} e n =
-      let fails = not-true r n in
+      let fails = n in
       none_seen s at (λ x h. let z : ◌≡◌ {A = ℕ} 0 1 = cc (seen_head h) in omega arith)
 
   pub other_first : (r : NumberAt) → number_at r ≡ read_at (number 65535) s (at + 3) → OneOf (1 ∷ 2 ∷ []) (tag_of the_type r)
@@ -186,9 +186,9 @@ module _ (s : List ℕ) (at : ℕ) where
     other_second r says other = none_seen s at (λ x h. no_value r h.second x.addresses other (says ∙ second_read h))
 
     pub other_tail : (second behind : ℕ) {r : Bool} → got second behind ≡ read_at (number 65535) s middle → r ≡ tail_is_plain s behind
-        → not r ≡ true → PlainAt.Other ≡ plain_at s at
+        → r ≡ false → PlainAt.Other ≡ plain_at s at
     other_tail second behind {r} read₂ e n =
-        let fails = not-true r n in
+        let fails = n in
         none_seen s at λ x h.
         let e₂ = second_read h in
         let same : x.addresses ≡ behind = cc in

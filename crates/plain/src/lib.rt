@@ -1,5 +1,7 @@
 // The key of most packets, seen where its bytes lie without a key being made of them: a protocol of one byte, no EtherType, ports, two
 // IPv4 addresses, no VLAN tag, no tunnel.
+#![tactic(auto)]
+
 ghost use Rattle.std.specs.Prelude.{◌≡◌, ◌+◌, ◌≤◌, length};
 ghost use Rattle.forms.specs.Raw.{RawAt};
 ghost use Rattle.key.specs.Key.{reversed_key};
@@ -17,7 +19,7 @@ use key::link::MacAddress;
 use key::vlan::VlanTags;
 
 // A plain key's hash; where its second port begins, its addresses, and what stands behind it.
-#[derive(Drop)]
+#[derive(Clone, Copy)]
 pub struct Plain {
     pub hash: u64,
     pub second_port: usize,
@@ -25,7 +27,7 @@ pub struct Plain {
     pub next: usize,
 }
 
-#[derive(Drop)]
+#[derive(Clone, Copy)]
 pub enum PlainAt {
     Key(Plain),
     Other,
