@@ -5,6 +5,8 @@
 //              record's 37 words of 8 bytes, of which word 1, at 88, is its end; from 376 on spare
 //     queue    its tree, 16 bytes for each slot
 // What lies behind 256 + 640 c is the caller's.
+#![tactic(auto)]
+
 ghost use Rattle.std.specs.Prelude.{◌≡◌, ◌∷◌, [], ◌+◌, ◌*◌, ◌≤◌, ◌<◌, length, replicate};
 ghost use Rattle.memory.specs.Bytes.{part, patch, bytes_of, words_at};
 ghost use Rattle.memory.specs.Decides.{Decides};
@@ -44,7 +46,7 @@ const WORD_BYTES: usize = 8;
 const END_AT: usize = 88;
 
 // The words of a header.
-#[derive(Drop)]
+#[derive(Clone, Copy)]
 pub struct Header {
     pub layout: u64,
     pub capacity: u64,
