@@ -16,12 +16,12 @@ use Rattle.index.specs.Reversed.{Absent}
 use Rattle.index.proofs.Laws.{used_next, used_same, absent_never, opened, closed, stays_indexed}
 use Rattle.key.specs.Key.{reversed_key}
 use Rattle.rules.specs.Order.{equal}
-use Rattle.rules.specs.Account.{equal_true}
+use Rattle.rules.proofs.AccountLaws.{equal_true}
 use Rattle.rules.specs.Laws.{Fresh, Distinct}
 use Rattle.rules.specs.Rules.{by_key}
 use Rattle.rules.specs.Engine.{engine, key_bytes}
-use Rattle.rules.specs.EngineLaws.{engine_keys}
-use Rattle.rules.specs.EngineSlots.{clear_distinct}
+use Rattle.rules.proofs.EngineTermsLaws.{engine_keys}
+use Rattle.rules.proofs.EngineSlotsLaws.{clear_distinct}
 use Rattle.rules.specs.Slots.{Slots, occupied}
 use Rattle.state.specs.Sitting.{all_sit}
 use Rattle.state.specs.Slot.{key_in, flow_in, slot_flow, SoundSlot}

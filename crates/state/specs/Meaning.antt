@@ -14,11 +14,11 @@ use Rattle.key.specs.Key.{reversed_key}
 use Rattle.key.specs.KeyTheorems.{KeyInRange}
 use Rattle.key.specs.declared.key.FlowKey.{FlowKey}
 use Rattle.rules.specs.Order.{equal}
-use Rattle.rules.specs.Account.{equal_true}
+use Rattle.rules.proofs.AccountLaws.{equal_true}
 use Rattle.rules.specs.Rules.{by_key}
 use Rattle.rules.specs.Engine.{engine, key_bytes, is_association}
 use Rattle.rules.specs.EngineLaws.{SoundFlow}
-use Rattle.rules.specs.EngineSlots.{slots_sound}
+use Rattle.rules.proofs.EngineSlotsLaws.{slots_sound}
 use Rattle.rules.specs.EngineSlots as E
 use Rattle.rules.specs.EngineSound.{SoundEngine}
 use Rattle.rules.specs.Slots.{occupied}

@@ -4,7 +4,6 @@ use Rattle.std.proofs.Math.Path.{refl, ap}
 use Rattle.std.proofs.Common.{sym, ◌∙◌, subst, inl, inr, arith, eqb-true, ltb-true}
 use Rattle.std.proofs.lemmas.Bool.{false≢true, eqb-false}
 use mathlib.Core.List.{List, [], ◌∷◌}
-use Rattle.std.proofs.Math.Option.{none}
 use Rattle.std.proofs.Math.ListN.{length}
 use Rattle.queue.specs.Tree as Tree
 use Rattle.slots.proofs.Laws.{get_d_slots, length_slots}

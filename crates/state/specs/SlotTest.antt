@@ -13,7 +13,6 @@ use Rattle.forms.specs.declared.place.Place.{Place}
 use Rattle.forms.specs.declared.place.Place.TheVariants.{At, Full}
 use Rattle.slots.specs.Table.{slot, slots, key_of, holds, first_where, NoKeyTwice}
 use Rattle.slots.specs.declared.Found.{Found}
-use Rattle.slots.specs.declared.Found.TheVariants as Found
 use Rattle.index.specs.Index.{Indexed, Inserted, home, entry_of, hash_absent, taken}
 use Rattle.index.specs.Hash.{hash_of, key_from_lem, hash_of_lem, hash_reversed}
 use Rattle.index.specs.Reversed.{Absent}
@@ -32,7 +31,7 @@ use Rattle.key.specs.KeyTheorems.{KeyInRange, key_in_range, key_read_back, key_w
 use Rattle.key.specs.declared.key.FlowKey.{FlowKey}
 use Rattle.key.specs.declared.form.ReadKey.{ReadKey}
 use Rattle.rules.specs.Engine.{key_bytes, is_association}
-use Rattle.rules.specs.EngineLaws.{reversed_in_range, engine_keys}
+use Rattle.rules.proofs.EngineTermsLaws.{reversed_in_range, engine_keys}
 use Rattle.plain.specs.Plain as Plainly
 use Rattle.plain.specs.Plain.{plain_at}
 use Rattle.plain.specs.Laid.{at_back}

@@ -17,7 +17,7 @@ use flow::time::Nanos;
 use plain::{PlainAt, plain_at};
 
 // The hash of a slot's key, where that is a plain one.
-#[derive(Drop)]
+#[derive(Clone, Copy)]
 enum PlainHash {
     Hash(u64),
     Other,

@@ -4,7 +4,7 @@ ghost use Rattle.state.specs.Opening.{Opened};
 use flow::time::{Idle, Millis, TimeResolution};
 use wire::record::resolution_number;
 
-#[derive(Drop)]
+#[derive(Clone, Copy)]
 pub enum Opening {
     Opened,
     // Refusal 1: a capacity of 0 or above 4096.

@@ -15,7 +15,7 @@ use key::key::FlowKey;
 use words::words::{record_of, words_fit};
 
 // A key's form, read whole.
-#[derive(Drop)]
+#[derive(Clone, Copy)]
 pub enum WholeKey {
     Key(FlowKey),
     Other,
