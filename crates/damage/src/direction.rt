@@ -31,7 +31,7 @@ fn field(from: u8, k: u8) -> usize {
 }
 
 fn other(state: &[u8], tally: Tally, whose: &[u8], name: &[u8], at: usize, word: u64) -> Tally {
-    print(whose);
+    print(tally.stdout, whose);
     with_word(state, tally, name, at, word)
 }
 
@@ -44,7 +44,7 @@ fn sums(state: &[u8], tally: Tally, whose: &[u8], from: u8) -> Tally {
 fn lengths(state: &[u8], tally: Tally, whose: &[u8], from: u8) -> Tally {
     let least = field(from, 2);
     let greatest = field(from, 3);
-    print(whose);
+    print(tally.stdout, whose);
     let tally = with_two(state, tally, b" length range missing", least, 0, 0);
     let tally = other(state, tally, whose, b" length minimum alone", greatest, 0);
     let tally = other(state, tally, whose, b" length maximum alone", least, 0);
@@ -76,8 +76,8 @@ fn lengths(state: &[u8], tally: Tally, whose: &[u8], from: u8) -> Tally {
 
 // One flag's count is more than there are packets.
 fn above(state: &[u8], tally: Tally, whose: &[u8], flag: &[u8], at: usize, count: u64) -> Tally {
-    print(whose);
-    print(flag);
+    print(tally.stdout, whose);
+    print(tally.stdout, flag);
     with_word(state, tally, b" count above packets", at, count)
 }
 

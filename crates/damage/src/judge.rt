@@ -3,16 +3,20 @@ use crate::places::{MEMORY_BYTES, put_byte, put_word};
 use listing::line::{print, put};
 use listing::tally::{one_more, print_count};
 use state::check::is_sound;
+use std::io::Stdout;
 
-#[derive(Drop)]
+#[derive(Clone, Copy)]
 pub struct Tally {
+    // Where the lines go.
+    pub stdout: Stdout,
     pub damages: u64,
     pub refused: u64,
 }
 
 impl Tally {
-    pub fn new() -> Tally {
+    pub fn new(stdout: Stdout) -> Tally {
         Tally {
+            stdout: stdout,
             damages: 0,
             refused: 0,
         }
@@ -21,11 +25,13 @@ impl Tally {
     fn count(self, sound: bool) -> Tally {
         if sound {
             return Tally {
+                stdout: self.stdout,
                 damages: one_more(self.damages),
                 refused: self.refused,
             };
         }
         Tally {
+            stdout: self.stdout,
             damages: one_more(self.damages),
             refused: one_more(self.refused),
         }
@@ -33,24 +39,25 @@ impl Tally {
 }
 
 pub fn print_tally(tally: Tally) {
-    print_count(b"", tally.damages);
-    print_count(b" damages, ", tally.refused);
-    print(b" refused\n");
+    let stdout = tally.stdout;
+    print_count(stdout, b"", tally.damages);
+    print_count(stdout, b" damages, ", tally.refused);
+    print(stdout, b" refused\n");
 }
 
 // Prints the line for a state, and answers whether it is sound.
-pub fn stands(state: &[u8], name: &[u8]) -> bool {
-    print(name);
+pub fn stands(stdout: Stdout, state: &[u8], name: &[u8]) -> bool {
+    print(stdout, name);
     if is_sound(state) {
-        print(b" 0\n");
+        print(stdout, b" 0\n");
         return true;
     }
-    print(b" 3\n");
+    print(stdout, b" 3\n");
     false
 }
 
 pub fn judge(state: &[u8], tally: Tally, name: &[u8]) -> Tally {
-    tally.count(stands(state, name))
+    tally.count(stands(tally.stdout, state, name))
 }
 
 // A copy with another byte.

@@ -3,6 +3,8 @@
 // A state of capacity 3 is opened, and a conversation and a lone packet are put into slots 0 and 2. Then for each damage a copy is
 // changed and checked, and a line printed: what was changed, and 3 where the copy is not sound, else 0. Changes that leave it sound
 // stand beside those that do not.
+#![tactic(auto)]
+
 mod direction;
 mod entries;
 mod flows;
@@ -19,8 +21,10 @@ mod together;
 use flow::time::{Millis, TimeResolution};
 use judge::Tally;
 use state::opening::{Opening, open};
+use std::io::Stdout;
 
-fn main() {
+fn main(rt: HostRuntime) {
+    let stdout = rt.stdout();
     let mut memory = [165u8; places::MEMORY_BYTES];
     match open(
         &mut memory,
@@ -28,21 +32,21 @@ fn main() {
         Millis(1000),
         TimeResolution::Microseconds,
     ) {
-        Opening::Opened => show(&mut memory),
-        Opening::Capacity => listing::line::print(b"not opened: capacity\n"),
-        Opening::Memory => listing::line::print(b"not opened: memory\n"),
+        Opening::Opened => show(stdout, &mut memory),
+        Opening::Capacity => listing::line::print(stdout, b"not opened: capacity\n"),
+        Opening::Memory => listing::line::print(stdout, b"not opened: memory\n"),
     }
 }
 
-fn show(memory: &mut [u8]) {
+fn show(stdout: Stdout, memory: &mut [u8]) {
     flows::put_flows(memory);
-    judge::stands(memory, b"as it stands");
-    judge::print_tally(damaged(memory));
+    judge::stands(stdout, memory, b"as it stands");
+    judge::print_tally(damaged(stdout, memory));
 }
 
 // All damages, kind by kind.
-fn damaged(state: &[u8]) -> Tally {
-    let tally = header::damaged(state, Tally::new());
+fn damaged(stdout: Stdout, state: &[u8]) -> Tally {
+    let tally = header::damaged(state, Tally::new(stdout));
     let tally = slot::damaged(state, tally);
     let tally = form::damaged(state, tally);
     let tally = record::damaged(state, tally);
