@@ -15,7 +15,7 @@ use Rattle.table.specs.Due.{NextDue}
 use Rattle.state.specs.Slot.{flow_in}
 use Rattle.state.specs.State.{slots_of}
 use Rattle.rules.specs.Order.{sort, those}
-use Rattle.rules.specs.Laws.{clash}
+use Rattle.rules.proofs.OrderLaws.{clash}
 use Rattle.rules.specs.Rules.{Flow, by_end}
 use Rattle.rules.specs.Due.{not_idle}
 use Rattle.rules.specs.Engine.{engine}

@@ -14,10 +14,12 @@ use Rattle.state.specs.Slot.{flow_in, slot_flow}
 use Rattle.state.specs.State.{SoundFlows, slots_of}
 use Rattle.rules.specs.Order.{sort, those}
 use Rattle.rules.specs.Totals.{All, all_more}
-use Rattle.rules.specs.Laws.{Ordered, clash}
+use Rattle.rules.specs.Laws.{Ordered}
+use Rattle.rules.proofs.OrderLaws.{clash}
 use Rattle.rules.specs.Rules.{Flow, by_key}
 use Rattle.rules.specs.Engine.{engine}
-use Rattle.rules.specs.Slots.{occupied, meaning, in_order, none_left}
+use Rattle.rules.specs.Slots.{occupied, meaning}
+use Rattle.rules.proofs.SlotsLaws.{in_order, none_left}
 use Rattle.plan.specs.Plan.{Gathered, DrainAsked}
 use Rattle.state.specs.Names.{OneOf, Once, flows_of, OpenSlot}
 use Rattle.plan.specs.Steps.{Fits, key_at, GatherAsked, PassedOver, TakenIn, SlotGathered}

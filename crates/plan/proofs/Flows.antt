@@ -16,7 +16,7 @@ use Rattle.table.proofs.SlotLaws.{end_word}
 use Rattle.state.specs.Slot.{words_in, record_in, flow_in, SoundSlot}
 use Rattle.state.specs.State.{SoundFlows}
 use Rattle.rules.specs.Order.{equal}
-use Rattle.rules.specs.Account.{equal_true}
+use Rattle.rules.proofs.AccountLaws.{equal_true}
 use Rattle.rules.specs.Rules.{Flow, by_key, by_end}
 use Rattle.rules.specs.Engine.{engine}
 use Rattle.plan.proofs.Listing.{Apart}

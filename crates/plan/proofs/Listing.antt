@@ -12,7 +12,8 @@ use Rattle.memory.proofs.Laws.{same_or}
 use Rattle.state.specs.Sitting.{sits, all_sit, pairs_sit}
 use Rattle.rules.specs.Order.{at_most, equal, insert, sort, those}
 use Rattle.rules.specs.Totals.{All, either, all_map, all_sort}
-use Rattle.rules.specs.Laws.{Fresh, Distinct, Ordered, clash, equal_refl, at_most-antisym, ordered_sort, perm_sort, distinct_perm, distinct_those}
+use Rattle.rules.specs.Laws.{Fresh, Distinct, Ordered}
+use Rattle.rules.proofs.OrderLaws.{clash, equal_refl, at_most-antisym, ordered_sort, perm_sort, distinct_perm, distinct_those}
 use Rattle.rules.specs.Rules.{Terms, Flow, by_key}
 use Rattle.rules.specs.Slots.{Slots, occupied, meaning}
 use Rattle.rules.specs.Sound.{Pairs}
@@ -40,10 +41,12 @@ module _ {A : Type 0} where
       behind (inr (inr e)) rest = inr (rest (inr e))
 
   element_sort : (rank : A → List ℕ) (x : A) (l : List A) → Element x l → Element x (sort rank l)
+  element_sort rank x [] e = elim e [ ]
   element_sort rank x (y ∷ l) (inl e) = element_insert rank x y (sort rank l) (inl e)
   element_sort rank x (y ∷ l) (inr e) = element_insert rank x y (sort rank l) (inr (element_sort rank x l e))
 
   element_those : (test : A → Bool) (x : A) (l : List A) → test x ≡ true → Element x l → Element x (those test l)
+  element_those test x [] t e = elim e [ ]
   element_those test x (y ∷ l) t (inl e) =
       rw (subst (λ (z : A). test z ≡ true) e t) (inl e)
   element_those test x (y ∷ l) t (inr e) = either (Element x) (test y) (inr (element_those test x l t e)) (element_those test x l t e)

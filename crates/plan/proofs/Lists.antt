@@ -13,7 +13,8 @@ use borrow.Author.Tests.{eq-eqb, ne_eqb}
 use Rattle.memory.proofs.Laws.{same_or}
 use Rattle.rules.specs.Order.{at_most}
 use Rattle.rules.specs.Totals.{All, either}
-use Rattle.rules.specs.Laws.{Ordered, clash, at_most-trans, at_most-total}
+use Rattle.rules.specs.Laws.{Ordered}
+use Rattle.rules.proofs.OrderLaws.{clash, at_most-trans, at_most-total}
 use Rattle.state.specs.Names.{OneOf, Once}
 use Rattle.plan.specs.Steps.{put_at, PlaceFor}
 

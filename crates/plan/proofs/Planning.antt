@@ -15,7 +15,8 @@ use Rattle.table.specs.View.{slot_of}
 use Rattle.table.specs.Due.{end_of, due_of, due_for}
 use Rattle.state.specs.Slot.{flow_in}
 use Rattle.rules.specs.Totals.{All, all_more}
-use Rattle.rules.specs.Laws.{Ordered, clash}
+use Rattle.rules.specs.Laws.{Ordered}
+use Rattle.rules.proofs.OrderLaws.{clash}
 use Rattle.plan.specs.Plan.{Leaving}
 use Rattle.state.specs.Names.{OneOf, Once, Placed, NamesAllBut}
 use Rattle.plan.specs.Steps.{PlaceFor, put_at, goes}
