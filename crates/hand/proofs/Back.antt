@@ -12,7 +12,7 @@ use Rattle.slots.specs.Table.{slot, is_used}
 use Rattle.table.specs.View.{View, view, slot_of, with_tree}
 use Rattle.table.specs.Due.{end_of, due_of, due_for, DuePut}
 use Rattle.table.proofs.Laws.{slot_view}
-use Rattle.rules.specs.Laws.{clash}
+use Rattle.rules.proofs.OrderLaws.{clash}
 use Rattle.state.specs.Names.{Placed, NamesAllBut, QueueOnly}
 use Rattle.hand.specs.Act.{Asked, PutBack}
 use Rattle.state.specs.Names.{OpenSlot}

@@ -8,7 +8,6 @@ use Rattle.flow.specs.declared.time.OptEndReason.{OptEndReason}
 use Rattle.flow.specs.declared.time.OptEndReason.TheVariants.{Absent, Present}
 use Rattle.slots.specs.Table.{slots}
 use Rattle.slots.specs.declared.Found.{Found}
-use Rattle.slots.specs.declared.Found.TheVariants as Found
 use Rattle.table.specs.View.{View, view}
 use Rattle.rules.specs.Rules.{Flow}
 use Rattle.rules.specs.Engine.{engine}

@@ -12,7 +12,7 @@ use Rattle.slots.specs.Table.{is_used, key_of}
 use Rattle.table.specs.View.{view, slot_of}
 use Rattle.table.specs.Due.{due_of, end_of}
 use Rattle.table.proofs.Laws.{slot_view}
-use Rattle.rules.specs.Laws.{clash}
+use Rattle.rules.proofs.OrderLaws.{clash}
 use Rattle.rules.specs.Totals.{All, all_more}
 use Rattle.rules.specs.Rules.{Flow, Finished, sizes}
 use Rattle.rules.specs.Engine.{engine, written, record_form}
