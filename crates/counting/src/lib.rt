@@ -1,4 +1,6 @@
 // A packet counted in a slot's words, where they lie.
+#![tactic(auto)]
+
 ghost use Rattle.std.specs.Prelude.{◌≡◌};
 ghost use Rattle.memory.specs.Bytes.{patch, bytes_of};
 ghost use Rattle.slots.specs.Table.{slot};
