@@ -13,7 +13,6 @@ use Rattle.memory.specs.Bytes.{patch, bytes_of}
 use Rattle.queue.specs.Tree.{DueSet, Sound}
 use Rattle.slots.specs.Table.{slot, slots, is_used, key_of}
 use Rattle.slots.specs.declared.Found.{Found}
-use Rattle.slots.specs.declared.Found.TheVariants as Found
 use Rattle.slots.proofs.Laws.{length_slots}
 use Rattle.table.specs.View.{View, view, slot_of, with_slot}
 use Rattle.table.specs.Due.{end_of, due_of, due_for, DuePut}
@@ -28,7 +27,7 @@ use Rattle.key.specs.KeyTheorems.{key_at_most}
 use Rattle.key.specs.declared.key.FlowKey.{FlowKey}
 use Rattle.flow.specs.declared.time.OptEndReason.TheVariants as Open
 use Rattle.flow.specs.declared.record.FlowRecord.{FlowRecord}
-use Rattle.rules.specs.Laws.{clash}
+use Rattle.rules.proofs.OrderLaws.{clash}
 use Rattle.rules.specs.Rules.{Flow}
 use Rattle.rules.specs.Engine.{engine, key_bytes}
 use Rattle.rules.specs.EngineLaws.{SoundFlow}

@@ -10,7 +10,6 @@ use Rattle.memory.specs.Bytes.{patch}
 use Rattle.queue.specs.Tree.{never, DueSet}
 use Rattle.slots.specs.Table.{slot, slots, is_used}
 use Rattle.slots.specs.declared.Found.{Found}
-use Rattle.slots.specs.declared.Found.TheVariants as Found
 use Rattle.slots.proofs.Laws.{get_d_slots}
 use Rattle.table.specs.View.{View, view, slot_of}
 use Rattle.table.specs.Due.{DuePut}
@@ -22,7 +21,7 @@ use Rattle.flow.specs.declared.time.OptEndReason.TheVariants.{Absent, Present}
 use Rattle.flow.specs.declared.record.FlowRecord.{FlowRecord}
 use Rattle.wire.specs.declared.record.Flow as Wire
 use Rattle.wire.specs.RecordForm.{record_bytes}
-use Rattle.rules.specs.Laws.{clash}
+use Rattle.rules.proofs.OrderLaws.{clash}
 use Rattle.rules.specs.Rules.{Flow, finish_or, ended, ended_for}
 use Rattle.rules.specs.Engine.{engine, written, finished_flow, record_form, both_fins}
 use Rattle.state.specs.Slot.{key_in, flow_in, slot_flow}

@@ -8,7 +8,6 @@ use lib.ListN.{length}
 use Rattle.memory.specs.Bytes.{patch}
 use Rattle.slots.specs.Table.{slot}
 use Rattle.slots.specs.declared.Found.{Found}
-use Rattle.slots.specs.declared.Found.TheVariants as Found
 use Rattle.table.specs.View.{view, slot_of, with_slot}
 use Rattle.table.specs.Due.{end_of, due_of, due_for, DuePut}
 use Rattle.index.specs.Hash.{hash_of, hash_of_lem}

@@ -8,7 +8,8 @@ use Rattle.index.specs.Reversed.{Absent}
 use Rattle.index.proofs.Laws.{absent_unless}
 use Rattle.rules.specs.Rules.{Flow, under}
 use Rattle.rules.specs.Engine.{engine}
-use Rattle.rules.specs.Slots.{meaning, found}
+use Rattle.rules.specs.Slots.{meaning}
+use Rattle.rules.proofs.SlotsLaws.{found}
 use Rattle.state.specs.Slot.{flow_in, slot_flow}
 use Rattle.state.specs.State.{SoundFlows, slots_of}
 use Rattle.state.specs.Free.{free_count, last_low, last_unused}

@@ -5,7 +5,6 @@ use Rattle.memory.specs.Bytes.{patch}
 use Rattle.queue.specs.Tree.{Sound}
 use Rattle.slots.specs.Table.{slot, slots, is_used}
 use Rattle.slots.specs.declared.Found.{Found}
-use Rattle.slots.specs.declared.Found.TheVariants as Found
 use Rattle.table.specs.View.{view, slot_of, with_slot}
 use Rattle.table.specs.Due.{end_of, due_of, due_for, DuePut}
 use Rattle.index.specs.Hash.{hash_of}

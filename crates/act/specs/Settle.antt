@@ -3,9 +3,7 @@ use Rattle.std.specs.Prelude.{ℕ, ◌≤◌, ◌<◌, ◌≡◌, List, length}
 use Rattle.memory.specs.Bytes.{patch}
 use Rattle.slots.specs.Table.{slot, slots}
 use Rattle.slots.specs.declared.Found.{Found}
-use Rattle.slots.specs.declared.Found.TheVariants as Found
 use Rattle.key.specs.declared.key.FlowKey.{FlowKey}
-use Rattle.flow.specs.declared.time.EndReason.{EndReason}
 use Rattle.flow.specs.declared.time.EndReason.TheVariants.{Fin}
 use Rattle.flow.specs.declared.time.OptEndReason.{OptEndReason}
 use Rattle.flow.specs.declared.time.OptEndReason.TheVariants.{Absent, Present}
