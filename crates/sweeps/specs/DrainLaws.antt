@@ -18,8 +18,8 @@ use Rattle.rules.specs.Order.{sort}
 use Rattle.rules.specs.Totals.{All, all_more}
 use Rattle.rules.specs.Rules.{Flow, Finished, Engine, finish_or, by_key, drained, sizes, drain_all}
 use Rattle.rules.specs.Engine.{engine, written}
-use Rattle.rules.specs.Slots.{in_order}
-use Rattle.rules.specs.Slots as Slots
+use Rattle.rules.proofs.SlotsLaws.{in_order}
+use Rattle.rules.specs.Slots
 use Rattle.state.specs.State.{SoundHeader, header_in, slots_of, meaning}
 use Rattle.state.specs.Ready.{Ready}
 use Rattle.state.specs.Names.{flows_of, NamesAllBut, OpenSlot}

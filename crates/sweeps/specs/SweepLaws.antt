@@ -9,7 +9,6 @@ use Rattle.std.proofs.Math.ListN.{length}
 use Rattle.memory.specs.Bytes.{le, part, patch}
 use Rattle.memory.proofs.Laws.{length_part, length_le, part_elsewhere, drop_behind}
 use Rattle.queue.specs.Tree.{node, never}
-use Rattle.slots.specs.Table.{slots}
 use Rattle.slots.proofs.Laws.{length_slots}
 use Rattle.table.specs.declared.Header.{Header}
 use Rattle.table.specs.Header.{header_of, with_clock}
@@ -22,8 +21,8 @@ use Rattle.rules.specs.Totals.{All, all_more}
 use Rattle.rules.specs.Rules.{Settings, Flow, Finished, Engine, Told, clock_at, leaves, finish_or, by_end, swept, staying, sizes, sweep_at}
 use Rattle.rules.specs.Engine.{engine, written}
 use Rattle.rules.specs.EngineSlots.{engine_of}
-use Rattle.rules.specs.Slots.{cleared}
-use Rattle.rules.specs.Slots as Slots
+use Rattle.rules.proofs.SlotsLaws.{cleared}
+use Rattle.rules.specs.Slots
 use Rattle.state.specs.Slot.{flow_in}
 use Rattle.state.specs.State.{SoundHeader, header_in, capacity_in, settings_of, settings_in, slots_of, meaning}
 use Rattle.state.specs.Ready.{Ready}

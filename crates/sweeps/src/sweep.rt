@@ -13,7 +13,7 @@ use plan::sweep::plan_at;
 use state::check::check;
 
 // What a sweep or a drain answers: the refusal's number, or 0; and the records that it wrote, with the bytes that they fill.
-#[derive(Drop)]
+#[derive(Clone, Copy)]
 pub struct Answer {
     pub refusal: u8,
     pub records: usize,
