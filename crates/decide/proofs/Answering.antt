@@ -8,7 +8,8 @@ use Rattle.slots.specs.Table.{slots}
 use Rattle.wire.specs.declared.packet.Packet.{Packet}
 use Rattle.rules.specs.Rules.{Settings, Refusal, Full, Spent, number_of, Flow, Engine, Answer, refused, clock_at, swept, staying, is_full, is_spent, fitted, steps34, steps1234, reused, one_packet}
 use Rattle.rules.specs.Engine.{engine, time_of}
-use Rattle.rules.specs.Slots.{Slots, meaning, cleared}
+use Rattle.rules.specs.Slots.{Slots, meaning}
+use Rattle.rules.proofs.SlotsLaws.{cleared}
 use Rattle.state.specs.State.{slots_of}
 use Rattle.plan.specs.Plan.{leaves_by}
 use Rattle.decide.specs.declared.decide.Decision.{Decision}

@@ -11,15 +11,14 @@ use lib.Seq.{get_or-set_other}
 use borrow.Author.Tests.{eqb-true, eqb-false}
 use Rattle.slots.specs.Table.{slot, slots}
 use Rattle.slots.specs.declared.Found.{Found}
-use Rattle.slots.specs.declared.Found.TheVariants as Found
-use Rattle.flow.specs.Summary.{syn}
 use Rattle.flow.specs.declared.record.Direction.TheVariants.{Forward, Reverse}
 use Rattle.key.specs.Endpoints.{has_reverse_direction}
 use Rattle.key.specs.Key.{reversed_key}
 use Rattle.wire.specs.declared.packet.Packet.{Packet}
 use Rattle.rules.specs.Rules.{Flow, under, if_closed, or_else, apart, chosen}
 use Rattle.rules.specs.Engine.{engine, key_bytes, both_fins}
-use Rattle.rules.specs.Slots.{Slots, meaning, freed}
+use Rattle.rules.specs.Slots.{Slots, meaning}
+use Rattle.rules.proofs.SlotsLaws.{freed}
 use Rattle.state.specs.Slot.{flow_in, record_in}
 use Rattle.state.specs.State.{SoundFlows}
 use Rattle.state.specs.SlotTest.{found_it}

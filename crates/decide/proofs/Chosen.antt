@@ -9,7 +9,6 @@ use native.Mathlib.Omega.{arith}
 use lib.ListN.{length, get_or, set}
 use Rattle.slots.specs.Table.{slot, slots}
 use Rattle.slots.specs.declared.Found.{Found}
-use Rattle.slots.specs.declared.Found.TheVariants as Found
 use Rattle.flow.specs.declared.record.Direction.{Direction}
 use Rattle.flow.specs.declared.record.Direction.TheVariants.{Forward, Reverse}
 use Rattle.key.specs.Key.{reversed_key}
@@ -18,7 +17,7 @@ use Rattle.wire.specs.declared.packet.Packet.{Packet}
 use Rattle.rules.specs.Totals.{total, total_sort}
 use Rattle.rules.specs.Rules.{Settings, Flow, Taker, old, new, by_key, under, chosen, taker, taking, beside, without}
 use Rattle.rules.specs.Engine.{engine, key_bytes, is_association}
-use Rattle.rules.specs.EngineLaws.{reversed_in_range}
+use Rattle.rules.proofs.EngineTermsLaws.{reversed_in_range}
 use Rattle.rules.specs.Slots.{Slots, occupied, meaning}
 use Rattle.state.specs.Slot.{key_in, flow_in}
 use Rattle.state.specs.State.{SoundFlows}

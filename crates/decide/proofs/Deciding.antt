@@ -10,7 +10,6 @@ use lib.ListN.{length}
 use borrow.Author.Tests.{eqb-true, eqb-false, eq-eqb, ne_eqb, le-leb, lt-leb, lt-ltb}
 use Rattle.slots.specs.Table.{slot, slots}
 use Rattle.slots.specs.declared.Found.{Found}
-use Rattle.slots.specs.declared.Found.TheVariants as Found
 use Rattle.flow.specs.Counting.{opened_of, counted_of, has_room}
 use Rattle.flow.specs.declared.time.TimeResolution.{TimeResolution}
 use Rattle.flow.specs.declared.record.Direction.{Direction}

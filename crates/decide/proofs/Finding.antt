@@ -12,11 +12,14 @@ use lib.Seq.{get_or-set_other}
 use Rattle.memory.proofs.Laws.{same_or}
 use Rattle.rules.specs.Order.{equal, those}
 use Rattle.rules.specs.Totals.{all_those}
-use Rattle.rules.specs.Account.{equal_true, under_is, Any, Under}
-use Rattle.rules.specs.Laws.{Fresh, Distinct, perm_sort, all_perm, distinct_perm}
+use Rattle.rules.specs.Account.{Any, Under}
+use Rattle.rules.proofs.AccountLaws.{equal_true, under_is}
+use Rattle.rules.specs.Laws.{Fresh, Distinct}
+use Rattle.rules.proofs.OrderLaws.{perm_sort, all_perm, distinct_perm}
 use Rattle.rules.specs.Rules.{Terms}
 use Rattle.rules.specs.Rules as R
-use Rattle.rules.specs.Slots.{Slots, occupied, meaning, keep, found, missing, freed, distinct_freed, all_freed, cleared}
+use Rattle.rules.specs.Slots.{Slots, occupied, meaning, keep}
+use Rattle.rules.proofs.SlotsLaws.{found, missing, freed, distinct_freed, all_freed, cleared}
 
 module _ (W : Terms) where
   -- ## The flow under a key

@@ -9,7 +9,6 @@ use lib.Dec.{eqb}
 use borrow.Author.Tests.{eq-eqb, ne_eqb}
 use Rattle.slots.specs.Table.{slot}
 use Rattle.slots.specs.declared.Found.{Found}
-use Rattle.slots.specs.declared.Found.TheVariants as Found
 use Rattle.flow.specs.Counting.{opened_of, counted_of, has_room, RoomToCount}
 use Rattle.flow.specs.RefusalLaws.{sound_with_room, opened_has_room}
 use Rattle.flow.specs.declared.time.EndReason.TheVariants.{Fin, Rst}

@@ -8,7 +8,6 @@ use native.Mathlib.Omega.{arith}
 use lib.ListN.{length, get_or, take, get_or-map}
 use Rattle.slots.specs.Table.{slot, slots, is_used, holds, first_where}
 use Rattle.slots.specs.declared.Found.{Found}
-use Rattle.slots.specs.declared.Found.TheVariants as Found
 use Rattle.slots.proofs.Laws.{found_at, holds_true, get_d_slots}
 use Rattle.index.specs.Hash.{hash_of}
 use Rattle.index.proofs.Laws.{not_found_absent}
@@ -17,10 +16,12 @@ use Rattle.key.specs.Key.{reversed_key}
 use Rattle.key.specs.KeyTheorems.{KeyInRange}
 use Rattle.key.specs.declared.key.FlowKey.{FlowKey}
 use Rattle.rules.specs.Due.{idle}
-use Rattle.rules.specs.Laws.{Distinct, distinct_those}
+use Rattle.rules.specs.Laws.{Distinct}
+use Rattle.rules.proofs.OrderLaws.{distinct_those}
 use Rattle.rules.specs.Rules.{Flow, by_key, under}
 use Rattle.rules.specs.Engine.{engine, key_bytes}
-use Rattle.rules.specs.Slots.{occupied, meaning, keep, found, missing}
+use Rattle.rules.specs.Slots.{occupied, meaning, keep}
+use Rattle.rules.proofs.SlotsLaws.{found, missing}
 use Rattle.state.specs.Slot.{flow_in, slot_flow}
 use Rattle.state.specs.State.{SoundFlows, slots_of}
 use Rattle.state.specs.Change.{slots_of_at, used_flow, found_under, absent_fresh, distinct_flows}

@@ -9,7 +9,6 @@ use lib.ListN.{length, get_or}
 use Rattle.memory.specs.Bytes.{num, part}
 use Rattle.slots.specs.Table.{slot}
 use Rattle.slots.specs.declared.Found.{Found}
-use Rattle.slots.specs.declared.Found.TheVariants as Found
 use Rattle.words.specs.Words.{record_of, direction_at}
 use Rattle.flow.specs.Counting.{mask_of, has_room}
 use Rattle.flow.specs.Summary.{rst, bit_of}

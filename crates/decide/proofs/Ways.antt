@@ -11,7 +11,6 @@ use Rattle.memory.specs.Bytes.{num, part}
 use Rattle.memory.proofs.Words.{word_at}
 use Rattle.slots.specs.Table.{slot}
 use Rattle.slots.specs.declared.Found.{Found}
-use Rattle.slots.specs.declared.Found.TheVariants as Found
 use Rattle.table.proofs.SlotLaws.{words_at_lem}
 use Rattle.words.specs.Words.{record_of, direction_at}
 use Rattle.index.specs.Hash.{hash_of, hash_of_lem}

@@ -2,7 +2,6 @@
 use Rattle.std.specs.Prelude.{ℕ, ◌≡◌, Bool, true, false, cond, List, eqb}
 use Rattle.slots.specs.Table.{slot}
 use Rattle.slots.specs.declared.Found.{Found}
-use Rattle.slots.specs.declared.Found.TheVariants as Found
 use Rattle.flow.specs.declared.record.Direction.TheVariants.{Forward, Reverse}
 use Rattle.rules.specs.Engine.{both_fins}
 use Rattle.state.specs.Slot.{record_in}

@@ -4,11 +4,9 @@ use Rattle.std.specs.Prelude.{ℕ, ◌+◌, ◌*◌, ◌≤◌, ◌<◌, ◌≡�
 use Rattle.std.proofs.Math.Option.{Option, none, some}
 use Rattle.slots.specs.Table.{slot, slots, is_used}
 use Rattle.slots.specs.declared.Found.{Found}
-use Rattle.slots.specs.declared.Found.TheVariants as Found
 use Rattle.index.specs.Hash.{hash_of}
 use Rattle.index.specs.Index.{Indexed}
 use Rattle.flow.specs.Counting.{opened_of}
-use Rattle.flow.specs.declared.time.OptEndReason.{OptEndReason}
 use Rattle.flow.specs.declared.record.FlowRecord.{FlowRecord}
 use Rattle.flow.specs.declared.record.Direction.{Direction}
 use Rattle.flow.specs.declared.record.Direction.TheVariants.{Forward}

@@ -2,7 +2,6 @@
 use Rattle.std.specs.Prelude.{ℕ, Bool, not, cond, ◌&&◌, List, eqb}
 use Rattle.slots.specs.Table.{slot}
 use Rattle.slots.specs.declared.Found.{Found}
-use Rattle.slots.specs.declared.Found.TheVariants as Found
 use Rattle.flow.specs.Counting.{mask_of, has_room}
 use Rattle.flow.specs.Summary.{rst, bit_of}
 use Rattle.flow.specs.declared.record.PacketFacts.{PacketFacts}

@@ -31,7 +31,7 @@ const FORWARD_FINS: usize = 15;
 const REVERSE_FINS: usize = 28;
 
 // The flow that step 1 ends, and the one that takes the packet, in that direction; no slot where a flow opens.
-#[derive(Drop)]
+#[derive(Clone, Copy)]
 pub struct Choice {
     pub ended: Found,
     pub slot: Found,

@@ -28,7 +28,7 @@ const SPENT: u8 = 6;
 
 // The refusal's number, or 0; the slot of the flow that step 1 ends; the slot of the flow that takes the packet, none where one
 // opens; that flow's name, its record with the packet counted, and the reason if it ends.
-#[derive(Drop)]
+#[derive(Clone, Copy)]
 pub struct Decision {
     pub refusal: u8,
     pub ended: Found,
