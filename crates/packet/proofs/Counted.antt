@@ -1,7 +1,7 @@
 -- Whether a packet is counted on an open flow and nothing else happens, by what was found. Assumes nothing.
 use Prim.Native.Nat.{ℕ, ◌+◌, ◌*◌, ◌^◌, ◌≤◌, ◌<◌, max}
 use mathlib.Core.Path.{◌≡◌, refl, sym, ap, ◌∙◌, subst}
-use mathlib.Core.Bool.{Bool, true, false, not, cond, false≢true}
+use mathlib.Core.Bool.{Bool, true, false, cond, false≢true}
 use mathlib.Core.List.{List}
 use mathlib.Core.Option.{none, some}
 use native.Mathlib.Omega.{arith}
@@ -10,9 +10,8 @@ use lib.ListN.{length, replicate, length-replicate}
 use Rattle.memory.specs.Bytes.{part, patch, bytes_of}
 use Rattle.memory.specs.Decides.{Decides}
 use Rattle.memory.proofs.Laws.{says_yes, says_no}
-use Rattle.slots.specs.Table.{slot, slots}
+use Rattle.slots.specs.Table.{slot}
 use Rattle.slots.specs.declared.Found.{Found}
-use Rattle.slots.specs.declared.Found.TheVariants as Found
 use Rattle.table.specs.View.{view, slot_of, with_slot, with_header}
 use Rattle.table.specs.Header.{header_of, with_clock}
 use Rattle.table.specs.declared.Header.{Header}
@@ -135,10 +134,6 @@ module _ (s index : List ℕ) (c : ℕ) (idle : Idle) (facts : PacketFacts) (bat
 
 -- ## The answer
 
-unnegated : (b : Bool) → not b ≡ false → b ≡ true
-unnegated true e = refl
-unnegated false e = absurd (false≢true (sym e))
-
 module _ (s index : List ℕ) (c : ℕ) (idle : Idle) (p : Packet) (h : Header) (header : h ≡ header_of (part s 0 256)) (clock : Nanos)
     (clock_is : clock.0 ≡ cond (eqb idle.timeout.0 0) h.clock.0 (max h.clock.0 (time_of p))) (due : Bool)
     (told : Decides due (NothingDue c idle.timeout.0 idle.lateness.0 clock.0 (view c s).tree)) where
@@ -159,8 +154,8 @@ module _ (s index : List ℕ) (c : ℕ) (idle : Idle) (p : Packet) (h : Header) 
     left = λ e. refl;
   }
 
-  pub due_left : not due ≡ true → SteadyTaken p s index c idle false s
-  due_left e = not_taken (λ st. false≢true (sym (ap not (told.1 st.quiet)) ∙ e))
+  pub due_left : due ≡ false → SteadyTaken p s index c idle false s
+  due_left e = not_taken (λ st. false≢true (sym e ∙ told.1 st.quiet))
 
   module _ (ended found : Found) (way : Direction) (choice : Chosen s c T L clock.0 p ended found way) (r : Found)
       (stays : r ≡ stays_open s p.facts ended found) where
@@ -176,12 +171,12 @@ module _ (s index : List ℕ) (c : ℕ) (idle : Idle) (p : Packet) (h : Header) 
           subst (λ (x : Found). Chosen s c T L clock.0 p Found.Nothing x way) facts.here
           (subst (λ (x : Found). Chosen s c T L clock.0 p x found way) facts.none_ends choice)
 
-      pub counted_steady : not due ≡ false → PacketInRange p → clock.0 < 2 ^ 64 → (s1 s2 : List ℕ)
+      pub counted_steady : due ≡ true → PacketInRange p → clock.0 < 2 ^ 64 → (s1 s2 : List ℕ)
           → view c s1
           ≡ with_slot i (patch (slot_of (view c s).table i) 80 (bytes_of (words_of (counted_of (record_in (slot s i)) way p.facts)))) (view c s)
           → view c s2 ≡ with_header (with_clock clock.0 (view c s1).header) (view c s1) → SteadyTaken p s index c idle true s2
       counted_steady e in_range small s1 s2 counted clocked =
-          let quiet = told.0 (unnegated due e) in
+          let quiet = told.0 e in
           record {
             which =
                 says_yes

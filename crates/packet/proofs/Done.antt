@@ -10,7 +10,6 @@ use lib.ListN.{length, take, drop, length-map, length-take}
 use Rattle.memory.specs.Bytes.{part, patch}
 use Rattle.slots.specs.Table.{slots}
 use Rattle.slots.specs.declared.Found.{Found}
-use Rattle.slots.specs.declared.Found.TheVariants as Found
 use Rattle.table.specs.View.{View, view, slot_of}
 use Rattle.table.specs.Header.{header_of}
 use Rattle.table.specs.declared.Header.{Header}
@@ -18,7 +17,6 @@ use Rattle.flow.specs.declared.time.Idle.{Idle}
 use Rattle.flow.specs.declared.time.Nanos.{Nanos}
 use Rattle.flow.specs.declared.time.TimeResolution.{TimeResolution}
 use Rattle.flow.specs.declared.time.EndReason.TheVariants.{IdleTimeout, Fin}
-use Rattle.flow.specs.declared.time.OptEndReason.{OptEndReason}
 use Rattle.wire.specs.PacketTheorems.{PacketInRange}
 use Rattle.wire.specs.declared.packet.Packet.{Packet}
 use Rattle.rules.specs.Order.{sort, those}
@@ -26,8 +24,9 @@ use Rattle.rules.specs.Totals.{total_sort, total_those}
 use Rattle.rules.specs.Rules.{Settings, Refusal, Room, number_of, Flow, Finished, Engine, Taker, Done, Answer, refused, done, by_end, finish_or, swept, ended, ended_for, ending, taking, beside, keeping, opens, sizes, steps34, clock_at, one_packet}
 use Rattle.rules.specs.Engine.{engine, key_bytes, time_of, written}
 use Rattle.rules.specs.EngineSlots.{engine_of}
-use Rattle.rules.specs.Slots.{Slots, occupied, cleared}
-use Rattle.rules.specs.Slots as Slots
+use Rattle.rules.specs.Slots.{Slots, occupied}
+use Rattle.rules.proofs.SlotsLaws.{cleared}
+use Rattle.rules.specs.Slots
 use Rattle.state.specs.Slot.{flow_in}
 use Rattle.state.specs.State.{Sound, SoundFlows, SoundHeader, header_in, capacity_in, settings_of, settings_in, slots_of, meaning}
 use Rattle.state.specs.SlotTest.{found_it}
@@ -35,7 +34,6 @@ use Rattle.state.specs.Free.{free_count}
 use Rattle.state.specs.Change.{open_and_free, ready_same}
 use Rattle.plan.specs.Plan.{leaves_by, Planned, PlanAsked, PlanMade}
 use Rattle.decide.specs.Decide.{staying_slots, ended_flow, left_flows, taker_on, DecideAsked, Chosen, Decided}
-use Rattle.decide.specs.Decide as Decide
 use Rattle.decide.specs.declared.decide.Decision.{Decision}
 use Rattle.decide.proofs.Chosen.{ended_flow_lem, ended_none, takes_old, takes_new, beside_old, left_meaning}
 use Rattle.decide.proofs.Answering.{answer_taken, answer_refused}

@@ -10,7 +10,6 @@ use borrow.Rule.Slice.PartMut.{put_mid}
 use Rattle.memory.proofs.Laws.{length_patch}
 use Rattle.slots.specs.Table.{slot, slots, is_used}
 use Rattle.slots.specs.declared.Found.{Found}
-use Rattle.slots.specs.declared.Found.TheVariants as Found
 use Rattle.slots.proofs.Laws.{get_d_slots}
 use Rattle.table.specs.View.{view}
 use Rattle.flow.specs.declared.time.EndReason.TheVariants.{IdleTimeout, Fin}

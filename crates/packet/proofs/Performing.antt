@@ -11,7 +11,6 @@ use Rattle.memory.specs.Bytes.{part}
 use Rattle.memory.proofs.Laws.{length_patch}
 use Rattle.slots.specs.Table.{slot, slots}
 use Rattle.slots.specs.declared.Found.{Found}
-use Rattle.slots.specs.declared.Found.TheVariants as Found
 use Rattle.slots.proofs.Laws.{length_slots}
 use Rattle.table.specs.View.{view, with_header}
 use Rattle.table.specs.Header.{header_of, with_clock}
@@ -42,7 +41,7 @@ use Rattle.act.specs.Free.{last_free_low, last_free_none, under_absent}
 use Rattle.act.specs.Keep.{flow_under, OldFlow, NewFlow}
 use Rattle.act.specs.Settle.{Filled, SettleAsked, settled_slots}
 use Rattle.sweeps.specs.StateLaws.{listed_many}
-use Rattle.rules.specs.EngineLaws.{written_both}
+use Rattle.rules.proofs.EngineTermsLaws.{written_both}
 use Rattle.packet.specs.Meant.{OldTaker, NewTaker, settled_means}
 use Rattle.packet.specs.Doing.{swept_by, ended_by, taken_by, finished_by, count_of, PlanStands, DecidedFor, LeavingAsked, left_slots, LeftHanded, Stepped, PerformAsked, beside_found, Performed}
 use Rattle.packet.proofs.Output.{filled_both}

@@ -10,7 +10,6 @@ use lib.ListN.{length, take, drop}
 use Rattle.memory.specs.Bytes.{patch, bytes_of}
 use Rattle.slots.specs.Table.{slot, slots}
 use Rattle.slots.specs.declared.Found.{Found}
-use Rattle.slots.specs.declared.Found.TheVariants as Found
 use Rattle.table.specs.View.{view, slot_of, with_slot, with_header}
 use Rattle.table.specs.Header.{with_clock}
 use Rattle.words.specs.Words.{words_of}

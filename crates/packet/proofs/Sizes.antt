@@ -10,7 +10,6 @@ use lib.ListN.{length}
 use Rattle.forms.specs.Length.{Sized}
 use Rattle.slots.specs.Table.{slot}
 use Rattle.slots.specs.declared.Found.{Found}
-use Rattle.slots.specs.declared.Found.TheVariants as Found
 use Rattle.key.specs.declared.key.FlowKey.{FlowKey}
 use Rattle.flow.specs.declared.time.EndReason.{EndReason}
 use Rattle.flow.specs.declared.time.EndReason.TheVariants.{Fin}
@@ -19,7 +18,7 @@ use Rattle.flow.specs.declared.time.OptEndReason.TheVariants.{Absent, Present}
 use Rattle.flow.specs.declared.record.FlowRecord.{FlowRecord}
 use Rattle.wire.specs.declared.record.Flow as Wire
 use Rattle.wire.specs.RecordForm.{record_bytes}
-use Rattle.rules.specs.Batch.{sizes_both}
+use Rattle.rules.proofs.BatchLaws.{sizes_both}
 use Rattle.rules.specs.Rules.{ended_for, finish_or, sizes}
 use Rattle.rules.specs.Engine.{engine, both_fins, finished_flow}
 use Rattle.state.specs.Slot.{flow_in}

@@ -9,7 +9,6 @@ use borrow.Author.Tests.{leb-false}
 use lib.ListN.{length}
 use Rattle.slots.specs.Table.{slot, slots}
 use Rattle.slots.specs.declared.Found.{Found}
-use Rattle.slots.specs.declared.Found.TheVariants as Found
 use Rattle.table.specs.Due.{end_of}
 use Rattle.words.specs.Kept.{open_record}
 use Rattle.key.specs.Key.{reversed_key}
@@ -23,7 +22,8 @@ use Rattle.flow.specs.declared.record.FlowRecord.{FlowRecord}
 use Rattle.wire.specs.declared.packet.Packet.{Packet}
 use Rattle.rules.specs.Rules.{Settings, Flow, Taker, old, under, chosen, taker, taking, is_full, is_spent}
 use Rattle.rules.specs.Engine.{engine, key_bytes, is_association, begun_with}
-use Rattle.rules.specs.EngineLaws.{SoundFlow, engine_keys, engine_held}
+use Rattle.rules.specs.EngineLaws.{SoundFlow}
+use Rattle.rules.proofs.EngineTermsLaws.{engine_keys, engine_held}
 use Rattle.rules.specs.Slots.{Slots}
 use Rattle.rules.specs.Sound.{TwoWay}
 use Rattle.state.specs.Slot.{key_in, words_in, record_in, flow_in}

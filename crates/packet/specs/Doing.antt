@@ -4,7 +4,6 @@ use Rattle.std.specs.Prelude.{ℕ, ◌+◌, ◌*◌, ◌≤◌, ◌<◌, max, �
 use Rattle.std.proofs.Math.Option.{Option, none, some}
 use Rattle.slots.specs.Table.{slot, slots}
 use Rattle.slots.specs.declared.Found.{Found}
-use Rattle.slots.specs.declared.Found.TheVariants as Found
 use Rattle.table.specs.View.{view}
 use Rattle.flow.specs.declared.time.EndReason.TheVariants.{IdleTimeout, Fin}
 use Rattle.flow.specs.declared.time.OptEndReason.{OptEndReason}

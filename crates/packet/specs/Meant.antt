@@ -6,7 +6,6 @@ use Rattle.std.proofs.Math.Bool.{not}
 use mathlib.Core.List.{List}
 use Rattle.std.proofs.Math.Option.{none, some}
 use Rattle.slots.specs.declared.Found.{Found}
-use Rattle.slots.specs.declared.Found.TheVariants as Found
 use Rattle.flow.specs.declared.time.OptEndReason.{OptEndReason}
 use Rattle.flow.specs.declared.time.OptEndReason.TheVariants.{Absent, Present}
 use Rattle.wire.specs.declared.packet.Packet.{Packet}
@@ -15,7 +14,8 @@ use Rattle.rules.specs.Laws.{Fresh, Distinct}
 use Rattle.rules.specs.Rules.{Settings, Flow, Engine, Taker, Done, by_key, without, beside, keeping, reused, staying, swept, steps34, steps234, one_packet}
 use Rattle.rules.specs.Rules as R
 use Rattle.rules.specs.Engine.{engine}
-use Rattle.rules.specs.Slots.{Slots, occupied, meaning, freed, changed, entered, cleared}
+use Rattle.rules.specs.Slots.{Slots, occupied, meaning}
+use Rattle.rules.proofs.SlotsLaws.{freed, changed, entered, cleared}
 use Rattle.plan.specs.Plan.{leaves_by}
 use Rattle.act.specs.Settle.{settled_slots}
 use Rattle.decide.specs.Decide.{staying_slots, ended_flow, left_flows, taker_on}

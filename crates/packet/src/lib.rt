@@ -1,5 +1,7 @@
 // One packet of a batch: what it will do is decided first, on the flows as its sweep will leave them; then it is done, or refused and
 // nothing is done.
+#![tactic(auto)]
+
 pub mod perform;
 pub mod size;
 pub mod steady;
@@ -16,7 +18,7 @@ use sweeps::clock::clock_at;
 use wire::packet::Packet;
 
 // What one packet did: the refusal's number, 0 for none; whether it opened a flow; the records that it finished, and their bytes.
-#[derive(Drop)]
+#[derive(Clone, Copy)]
 pub struct Step {
     pub refusal: u8,
     pub opened: bool,
@@ -25,7 +27,7 @@ pub struct Step {
 }
 
 // The clock once a packet's sweep is done, and how many flows leave by it.
-#[derive(Drop)]
+#[derive(Clone, Copy)]
 pub struct Plan {
     pub clock: Nanos,
     pub count: usize,
