@@ -8,9 +8,10 @@ use Rattle.flow.specs.declared.time.TimeResolution.{TimeResolution}
 use Rattle.wire.specs.declared.packet.Packet.{Packet}
 use Rattle.rules.specs.Rules.{Settings, Engine, Told, settings, sweep_at, drain_all}
 use Rattle.rules.specs.Engine.{engine, written}
-use Rattle.rules.specs.EngineLaws.{written_both}
+use Rattle.rules.proofs.EngineTermsLaws.{written_both}
 use Rattle.rules.specs.Demand.{Call, feed, sweep, drain, Run, started, step, run}
-use Rattle.rules.specs.EngineDemand.{ThirdDemand, third_demand, engine_run}
+use Rattle.rules.specs.EngineDemand.{ThirdDemand, engine_run}
+use Rattle.rules.proofs.EngineDemandLaws.{third_demand}
 use Rattle.state.specs.State.{Sound, settings_in, meaning}
 use Rattle.state.specs.Opening.{Opened, opened_sound, opened_settings, opened_fresh}
 use Rattle.state.specs.declared.opening.Opening.{Opening}

@@ -13,7 +13,7 @@ use Rattle.wire.specs.declared.packet.Packet.{Packet}
 use Rattle.rules.specs.Rules.{Settings, Refusal, Accepted, Full, Spent, Room, Finished, Engine, Told, Done, refused, done, number_of, stopped, next, sizes, one_packet, feed_all}
 use Rattle.rules.specs.Rules as R
 use Rattle.rules.specs.Engine.{engine, written}
-use Rattle.rules.specs.EngineLaws.{written_both}
+use Rattle.rules.proofs.EngineTermsLaws.{written_both}
 use Rattle.rules.specs.Totals.{total_append}
 use Rattle.state.specs.State.{Sound, capacity_in, settings_of, settings_in, meaning}
 use Rattle.hand.specs.Freed.{sizes_written}

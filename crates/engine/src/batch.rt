@@ -22,7 +22,7 @@ use wire::packet::{FactsAt, Packet, read_facts_at};
 use wire::record::resolution_from;
 
 // One packet of the batch: what it did, and where the next one begins.
-#[derive(Drop)]
+#[derive(Clone, Copy)]
 pub struct Taken {
     pub step: Step,
     pub next: usize,

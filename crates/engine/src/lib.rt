@@ -1,5 +1,7 @@
 // The engine's calls on memory that the caller lends: open, feed, sweep, drain. None has a `requires`: each refuses what it cannot do, on
 // any bytes whatever, and its promise says everything that it answers and leaves.
+#![tactic(auto)]
+
 pub mod batch;
 
 ghost use Rattle.state.specs.Opening.{Opened};
@@ -14,7 +16,7 @@ use sweeps::sweep::Answer;
 
 // What feeding a batch did: the refusal's number, 0 for none; the packets taken and the bytes of the batch that they fill; the flows
 // opened; the records written, and their bytes.
-#[derive(Drop)]
+#[derive(Clone, Copy)]
 pub struct FeedAnswer {
     pub refusal: u8,
     pub packets: usize,
