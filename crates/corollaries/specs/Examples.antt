@@ -11,7 +11,7 @@ use Rattle.words.specs.FieldLaws.{state_back}
 use Rattle.wire.specs.RecordForm.{state_number, state_from, reason_number, reason_from}
 use Rattle.wire.specs.declared.packet.Packet.{Packet}
 use Rattle.rules.specs.Order.{equal}
-use Rattle.rules.specs.Account.{equal_true}
+use Rattle.rules.proofs.AccountLaws.{equal_true}
 use Rattle.rules.specs.Totals.{All, all_more}
 use Rattle.rules.specs.Rules.{Refusal, Accepted, Room, number_of, Settings, Flow, Finished, Engine, Told}
 use Rattle.rules.specs.Rules.{sizes, stopped, handed, feed_all, sweep_at, drain_all}
@@ -19,7 +19,8 @@ use Rattle.rules.specs.Rules as R
 use Rattle.rules.specs.Engine.{engine, key_bytes, record_size, written}
 use Rattle.rules.specs.Table.{Call, feed, sweep, drain, Out, Step, Row, plays, from, holds}
 use Rattle.rules.specs.Table.{expected, given, packets_of, answer, agrees, plays_out, flows_of}
-use Rattle.rules.specs.Table.{opened_with, passes, all_pass, examples, further, examples_hold, further_hold, both_hold, each_row}
+use Rattle.rules.specs.Table.{opened_with, passes, all_pass, examples, further}
+use Rattle.rules.proofs.TableLaws.{examples_hold, further_hold, both_hold, each_row}
 use Rattle.state.specs.State.{Sound, settings_in, meaning}
 use Rattle.sweeps.specs.Promise.{Did, Swept, Drained}
 use Rattle.engine.specs.declared.FeedAnswer.{FeedAnswer}

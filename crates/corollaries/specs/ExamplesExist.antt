@@ -28,7 +28,8 @@ use Rattle.rules.specs.Rules.{Refusal, Accepted, BadPacket, Full, Spent, Room, S
 use Rattle.rules.specs.Engine.{key_bytes, record_size}
 use Rattle.rules.specs.EngineLaws.{SoundFlow}
 use Rattle.rules.specs.EngineSound.{SoundEngine}
-use Rattle.rules.specs.Table.{Call, feed, sweep, drain, Step, Row, plays, from, holds, flows_of, opened_with, examples, further, both_hold}
+use Rattle.rules.specs.Table.{Call, feed, sweep, drain, Step, Row, plays, from, holds, flows_of, opened_with, examples, further}
+use Rattle.rules.proofs.TableLaws.{both_hold}
 use Rattle.engine.specs.Batch.{Parsed, parsed, packet_here, parsed_end, short_here, refused_here}
 
 -- ## Packets are read back

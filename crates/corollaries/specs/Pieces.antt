@@ -9,10 +9,10 @@ use Rattle.wire.specs.PacketForm.{packet}
 use Rattle.wire.specs.PacketTheorems.{packet_at_least}
 use Rattle.wire.specs.declared.packet.Packet.{Packet}
 use Rattle.rules.specs.Rules.{Settings, Refusal, Engine, Told, number_of, sizes, feed_all}
-use Rattle.rules.specs.Rules as R
 use Rattle.rules.specs.Engine.{engine, written}
-use Rattle.rules.specs.EngineLaws.{written_both}
-use Rattle.rules.specs.Batch.{together, GoesOn, goes_on, taken_most, taken_whole}
+use Rattle.rules.proofs.EngineTermsLaws.{written_both}
+use Rattle.rules.specs.Batch.{together, GoesOn}
+use Rattle.rules.proofs.BatchLaws.{goes_on, taken_most, taken_whole}
 use Rattle.rules.specs.Totals.{total_append}
 use Rattle.state.specs.State.{Sound, settings_in, meaning}
 use Rattle.hand.specs.Freed.{sizes_written}
