@@ -17,8 +17,7 @@ use wire::record::{
 use words::words::{record_of, words_fit, words_of};
 
 // The number, at most `most`, that the bytes begin with: `answer` is its value and the bytes used.
-#[unsafe(no_mangle)]
-pub extern "C" fn braidpuddle_read_number(bytes: &[u8], most: u64, answer: &mut [u64; 2]) -> u64
+pub fn braidpuddle_read_number(bytes: &[u8], most: u64, answer: &mut [u64; 2]) -> u64
     ensures { (result, answer.new) ≡ told (read_one 4 (number most) bytes.now) (λ v used. v ∷ used ∷ []) answer.old }
 {
     match read_lone_number(bytes, most) {
@@ -32,13 +31,7 @@ pub extern "C" fn braidpuddle_read_number(bytes: &[u8], most: u64, answer: &mut 
 }
 
 // The number at the front of `out`: `written` is how many bytes it took.
-#[unsafe(no_mangle)]
-pub extern "C" fn braidpuddle_write_number(
-    out: &mut [u8],
-    value: u64,
-    most: u64,
-    written: &mut u64,
-) -> u64
+pub fn braidpuddle_write_number(out: &mut [u8], value: u64, most: u64, written: &mut u64) -> u64
     ensures { ((result, written.new), out.new) ≡ wrote_as (write_one 4 (leb value most) (number_bytes value) out.old) written.old }
 {
     match write_lone_number(out, value, most) {
@@ -52,12 +45,7 @@ pub extern "C" fn braidpuddle_write_number(
 }
 
 // The packet that the bytes begin with: `packet` is its numbers, `place` where its key form begins and where it ends.
-#[unsafe(no_mangle)]
-pub extern "C" fn braidpuddle_read_packet(
-    bytes: &[u8],
-    packet: &mut [u64; 8],
-    place: &mut [u64; 2],
-) -> u64
+pub fn braidpuddle_read_packet(bytes: &[u8], packet: &mut [u64; 8], place: &mut [u64; 2]) -> u64
     ensures { (result, (packet.new, place.new)) ≡ packet_told bytes.now (packet.old, place.old) }
 {
     match read_packet(bytes) {
@@ -75,8 +63,7 @@ pub extern "C" fn braidpuddle_read_packet(
 }
 
 // The form of the packet of these numbers and this key at the front of `out`: `written` is how many bytes it took.
-#[unsafe(no_mangle)]
-pub extern "C" fn braidpuddle_write_packet(
+pub fn braidpuddle_write_packet(
     out: &mut [u8],
     packet: &[u64; 8],
     key: &[u8],
@@ -110,12 +97,7 @@ pub extern "C" fn braidpuddle_write_packet(
 
 // The record that the bytes begin with: `record` is its words, `place` where its key form begins, where it ends, and the number
 // of its end reason.
-#[unsafe(no_mangle)]
-pub extern "C" fn braidpuddle_read_record(
-    bytes: &[u8],
-    record: &mut [u64; 37],
-    place: &mut [u64; 3],
-) -> u64
+pub fn braidpuddle_read_record(bytes: &[u8], record: &mut [u64; 37], place: &mut [u64; 3]) -> u64
     ensures { (result, («record».new, place.new)) ≡ record_told bytes.now («record».old, place.old) }
 {
     match read_record(bytes) {
@@ -144,8 +126,7 @@ fn closed_record(record: &[u64; 37], reason: u64) -> FlowRecord
 }
 
 // The form of the record of these words, this end reason and this key at the front of `out`: `written` is how many bytes it took.
-#[unsafe(no_mangle)]
-pub extern "C" fn braidpuddle_write_record(
+pub fn braidpuddle_write_record(
     out: &mut [u8],
     record: &[u64; 37],
     reason: u64,

@@ -10,8 +10,7 @@ use wire::record::resolution_from;
 use words::words::{record_of, words_fit, words_of};
 
 // The record of a flow's first packet, counted forward; resolution 0 is microseconds, any other finer.
-#[unsafe(no_mangle)]
-pub extern "C" fn braidpuddle_begin(
+pub fn braidpuddle_begin(
     packet: &[u64; 8],
     protocol: u64,
     resolution: u64,
@@ -43,12 +42,7 @@ fn direction_named(number: u64) -> Direction
 }
 
 // The packet counted on the record, in the direction named: Damaged, Packet or Spent, in that order, leaves it as it was.
-#[unsafe(no_mangle)]
-pub extern "C" fn braidpuddle_count(
-    record: &mut [u64; 37],
-    direction: u64,
-    packet: &[u64; 8],
-) -> u64
+pub fn braidpuddle_count(record: &mut [u64; 37], direction: u64, packet: &[u64; 8]) -> u64
     ensures { (result, «record».new) ≡ counted_words «record».old direction packet.now }
 {
     if words_fit(record) {

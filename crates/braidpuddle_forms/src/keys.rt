@@ -11,8 +11,7 @@ use key::form::{WroteKey, write_key};
 use state::slot::{WholeKey, whole_key};
 
 // Which of `shards` workers the key's flow belongs to; 2^64 − 1 where the bytes are no key form.
-#[unsafe(no_mangle)]
-pub extern "C" fn braidpuddle_shard(key: &[u8], shards: u64) -> u64
+pub fn braidpuddle_shard(key: &[u8], shards: u64) -> u64
     ensures { result ≡ of_key (whole_key key.now) (λ k. shard_of k shards) }
 {
     let WholeKey::Key(named) = whole_key(key) else {
@@ -22,8 +21,7 @@ pub extern "C" fn braidpuddle_shard(key: &[u8], shards: u64) -> u64
 }
 
 // The number of the protocol's name, 0 for none; 2^64 − 1 where the bytes are no key form.
-#[unsafe(no_mangle)]
-pub extern "C" fn braidpuddle_protocol_name(key: &[u8]) -> u64
+pub fn braidpuddle_protocol_name(key: &[u8]) -> u64
     ensures { result ≡ of_key (whole_key key.now) key_name }
 {
     let WholeKey::Key(named) = whole_key(key) else {
@@ -33,8 +31,7 @@ pub extern "C" fn braidpuddle_protocol_name(key: &[u8]) -> u64
 }
 
 // 4 or 6, or 0 for traffic that is not IP; 2^64 − 1 where the bytes are no key form.
-#[unsafe(no_mangle)]
-pub extern "C" fn braidpuddle_ip_version(key: &[u8]) -> u64
+pub fn braidpuddle_ip_version(key: &[u8]) -> u64
     ensures { result ≡ of_key (whole_key key.now) (λ k. version_number (version_of k)) }
 {
     let WholeKey::Key(named) = whole_key(key) else {
@@ -48,8 +45,7 @@ pub extern "C" fn braidpuddle_ip_version(key: &[u8]) -> u64
 }
 
 // The form of the same flow's key seen from the other direction, at the front of `out`.
-#[unsafe(no_mangle)]
-pub extern "C" fn braidpuddle_reversed(key: &[u8], out: &mut [u8], written: &mut u64) -> u64
+pub fn braidpuddle_reversed(key: &[u8], out: &mut [u8], written: &mut u64) -> u64
     ensures { ((result, written.new), out.new) ≡ wrote_as (key_written (whole_key key.now) reversed_key out.old) written.old }
 {
     let WholeKey::Key(named) = whole_key(key) else {
@@ -66,12 +62,7 @@ pub extern "C" fn braidpuddle_reversed(key: &[u8], out: &mut [u8], written: &mut
 }
 
 // The form of the key with both MACs zero, at the front of `out`.
-#[unsafe(no_mangle)]
-pub extern "C" fn braidpuddle_forget_link_addresses(
-    key: &[u8],
-    out: &mut [u8],
-    written: &mut u64,
-) -> u64
+pub fn braidpuddle_forget_link_addresses(key: &[u8], out: &mut [u8], written: &mut u64) -> u64
     ensures { ((result, written.new), out.new) ≡ wrote_as (key_written (whole_key key.now) forgotten out.old) written.old }
 {
     let WholeKey::Key(named) = whole_key(key) else {
