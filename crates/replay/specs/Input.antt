@@ -1,9 +1,8 @@
 -- Input in pieces: what was read and is not used yet is a part of a window. No byte of it is lost when more is read.
-use Rattle.std.specs.Prelude.{ℕ, zero, suc, ◌+◌, ◌-◌, ◌≤◌, ◌<◌, min, ◌≡◌, refl, List, ◌∷◌, Bool, true, false, length, take, drop, set, get_or, ℤ, pos, negsuc}
-use Rattle.std.proofs.Common.{sym, ap, ◌∙◌, arith, add-one, ltb-true, ltb-false, length-set, length-drop, take-suc, take-suc-set, drop-cons, drop-set-lt, get_or-drop}
-use Rattle.std.specs.Int.Signed.{lt_z}
-use Rattle.libc.specs.Io.{Moved}
-use Rattle.io.specs.Counts.{clamp_len}
+use Rattle.std.specs.Prelude.{ℕ, zero, suc, ◌+◌, ◌-◌, ◌≤◌, ◌<◌, min, ◌≡◌, refl, List, ◌∷◌, Bool, true, false, length, take, drop, set, get_or, Result, Ok, Err}
+use Rattle.std.proofs.Common.{sym, ap, ◌∙◌, arith, add-one, length-set, length-drop, take-suc, take-suc-set, drop-cons, drop-set-lt, get_or-drop}
+use Rattle.std.specs.Result.{result_unwrap_or}
+use Rattle.std.specs.Io.{ReadsAtMost}
 use Rattle.std.proofs.Math.Seq.{take-take}
 use Rattle.replay.specs.declared.input.Input.{Input}
 use Rattle.replay.specs.declared.input.Source.{Source}
@@ -12,11 +11,11 @@ use Rattle.replay.specs.declared.input.Source.{Source}
 abbrev pub nothing_read : Input
 nothing_read = record { at = 0; end = 0; source = Source.Going }
 
--- what a read's answer says: below 0 it failed, 0 is the end
-abbrev pub source_after : ℤ → Source
-source_after (negsuc k) = Source.Failed
-source_after (pos zero) = Source.Over
-source_after (pos (suc k)) = Source.Going
+-- what a read's answer says: an error is that it failed, 0 is the end
+abbrev pub source_after : {E : Type 0} → Result ℕ E → Source
+source_after (Err e) = Source.Failed
+source_after (Ok zero) = Source.Over
+source_after (Ok (suc k)) = Source.Going
 
 -- more may come
 abbrev pub is_going : Source → Bool
@@ -129,33 +128,13 @@ nothing_inside i window e = rw e (record { ordered = omega arith; within = omega
 pub used_inside : (i j : Input) (window : List ℕ) (count : ℕ) → Inside i window → j ≡ used_up i count → Inside j window
 used_inside i j window count h e = rw e (record { ordered = omega arith; within = h.within })
 
--- the ways out of telling what a read says
-module _ (got : ℤ) where
-  pub read_failed : lt_z got (pos 0) ≡ true → Source.Failed ≡ source_after got
-  read_failed h = go got h
-    where
-      go : (z : ℤ) → lt_z z (pos 0) ≡ true → Source.Failed ≡ source_after z
-      go (negsuc k) e = refl
-      go (pos k) e = absurd (omega (arith, ltb-true k 0 e))
+-- what a read brought, behind an error nothing: bytes that were there to be read, and some where more may come
+module _ {E : Type 0} where
+  pub came_within : (got : Result ℕ E) (came : ℕ) (room : List ℕ) → ReadsAtMost got room → came ≡ result_unwrap_or got 0 → came ≤ length room
+  came_within (Err e) came room r k = omega arith
+  came_within (Ok n) came room r k = omega (arith, r.0)
 
-  pub read_going : lt_z (pos 0) got ≡ true → Source.Going ≡ source_after got
-  read_going h = go got h
-    where
-      go : (z : ℤ) → lt_z (pos 0) z ≡ true → Source.Going ≡ source_after z
-      go (negsuc k) e = let z : ◌≡◌ {A = ℕ} 0 1 = cc in absurd (omega arith)
-      go (pos zero) e = absurd (omega (arith, ltb-true 0 0 e))
-      go (pos (suc k)) e = refl
-
-  pub read_over : lt_z got (pos 0) ≡ false → lt_z (pos 0) got ≡ false → Source.Over ≡ source_after got
-  read_over h g = go got h g
-    where
-      go : (z : ℤ) → lt_z z (pos 0) ≡ false → lt_z (pos 0) z ≡ false → Source.Over ≡ source_after z
-      go (negsuc k) e f = let z : ◌≡◌ {A = ℕ} 0 1 = cc in absurd (omega arith)
-      go (pos zero) e f = refl
-      go (pos (suc k)) e f = absurd (omega (arith, ltb-false 0 (suc k) f))
-
--- a read that moved k of n bytes, k above 0, brought some
-pub brought : (got : ℤ) (source : Source) (came n m : ℕ) → source ≡ source_after got → Moved n got → n ≤ m → came ≡ clamp_len got m → source ≡ Source.Going → 0 < came
-brought (negsuc k) source came n m e r f g h = let z : ◌≡◌ {A = ℕ} 0 1 = cc in absurd (omega arith)
-brought (pos zero) source came n m e r f g h = let z : ◌≡◌ {A = ℕ} 0 1 = cc in absurd (omega arith)
-brought (pos (suc k)) source came n m e r f g h = omega arith
+  pub brought : (got : Result ℕ E) (source : Source) (came : ℕ) → source ≡ source_after got → came ≡ result_unwrap_or got 0 → source ≡ Source.Going → 0 < came
+  brought (Err e) source came k c g = let z : ◌≡◌ {A = ℕ} 0 1 = cc in absurd (omega arith)
+  brought (Ok zero) source came k c g = let z : ◌≡◌ {A = ℕ} 0 1 = cc in absurd (omega arith)
+  brought (Ok (suc n)) source came k c g = omega arith

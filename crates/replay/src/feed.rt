@@ -3,12 +3,14 @@ ghost use Rattle.std.specs.Prelude.{◌≡◌};
 ghost use Rattle.replay.specs.Input.{Inside};
 ghost use Rattle.replay.specs.Feed.{GoneOn, is_feeding, over_with, stage_after, next_stage};
 
+use crate::Streams;
 use crate::input::{Input, Source, read_on, unused};
 use crate::output::{Totals, print_records};
 use listing::fields::part;
+use std::io::{Stdin, Stdout};
 
 // What a run has come to.
-#[derive(Drop)]
+#[derive(Clone, Copy)]
 pub enum Stage {
     Feeding,
     // The input is over, and every packet of it is taken.
@@ -21,7 +23,7 @@ pub enum Stage {
     Unwritten,
 }
 
-#[derive(Drop)]
+#[derive(Clone, Copy)]
 pub struct Run {
     pub input: Input,
     pub totals: Totals,
@@ -61,11 +63,11 @@ fn stage_after(refusal: u8, source: Source) -> Stage
     }
 }
 
-fn take_more(window: &mut [u8], input: Input, totals: Totals, refusal: u8) -> Run
+fn take_more(stdin: Stdin, window: &mut [u8], input: Input, totals: Totals, refusal: u8) -> Run
     requires { Inside input window.old }
     ensures { GoneOn input window.old totals (stage_after refusal) result window.new }
 {
-    let next = read_on(window, input);
+    let next = read_on(stdin, window, input);
     let source = next.source;
     Run {
         input: next,
@@ -75,12 +77,12 @@ fn take_more(window: &mut [u8], input: Input, totals: Totals, refusal: u8) -> Ru
 }
 
 // What follows the number of a refusal that the engine answered, 0 for none.
-fn go_on(window: &mut [u8], input: Input, totals: Totals, refusal: u8) -> Run
+fn go_on(stdin: Stdin, window: &mut [u8], input: Input, totals: Totals, refusal: u8) -> Run
     requires { Inside input window.old }
     ensures { GoneOn input window.old totals (next_stage refusal) result window.new }
 {
     match refusal {
-        0 | 9 => take_more(window, input, totals, refusal),
+        0 | 9 => take_more(stdin, window, input, totals, refusal),
         // The output was full. It is empty now, and has room for whatever one packet finishes.
         7 => Run {
             input: input,
@@ -96,7 +98,7 @@ fn go_on(window: &mut [u8], input: Input, totals: Totals, refusal: u8) -> Run
 }
 
 // What feeding came to, once its records are printed.
-#[derive(Drop)]
+#[derive(Clone, Copy)]
 struct Fed {
     refusal: u8,
     used: usize,
@@ -105,10 +107,16 @@ struct Fed {
     well: bool,
 }
 
-fn feed_batch(state: &mut [u8], batch: &[u8], output: &mut [u8], totals: Totals) -> Fed {
+fn feed_batch(
+    stdout: Stdout,
+    state: &mut [u8],
+    batch: &[u8],
+    output: &mut [u8],
+    totals: Totals,
+) -> Fed {
     let answer = engine::feed(state, batch, output);
     let taken = totals.with_packets(answer.packets);
-    let printed = print_records(part(output, 0, answer.bytes), answer.records, taken);
+    let printed = print_records(stdout, part(output, 0, answer.bytes), answer.records, taken);
     let all = printed.totals;
     Fed {
         refusal: answer.refusal,
@@ -119,17 +127,23 @@ fn feed_batch(state: &mut [u8], batch: &[u8], output: &mut [u8], totals: Totals)
 }
 
 // Feeds what is there, and reads on.
-fn feed_once(state: &mut [u8], window: &mut [u8], output: &mut [u8], run: Run) -> Run
+fn feed_once(
+    streams: Streams,
+    state: &mut [u8],
+    window: &mut [u8],
+    output: &mut [u8],
+    run: Run,
+) -> Run
     requires { Inside run.input window.old }
     ensures { Inside result.input window.new }
 {
     let input = run.input;
     let before = run.totals;
-    let fed = feed_batch(state, unused(window, input), output, before);
+    let fed = feed_batch(streams.stdout, state, unused(window, input), output, before);
     let totals = fed.totals;
     let rest = input.used(fed.used);
     if fed.well {
-        return go_on(window, rest, totals, fed.refusal);
+        return go_on(streams.stdin, window, rest, totals, fed.refusal);
     }
     Run {
         input: rest,
@@ -138,7 +152,13 @@ fn feed_once(state: &mut [u8], window: &mut [u8], output: &mut [u8], run: Run) -
     }
 }
 
-pub fn feed_all(state: &mut [u8], window: &mut [u8], output: &mut [u8], input: Input) -> Run
+pub fn feed_all(
+    streams: Streams,
+    state: &mut [u8],
+    window: &mut [u8],
+    output: &mut [u8],
+    input: Input,
+) -> Run
     requires { Inside input window.old }
 {
     let mut run = Run {
@@ -150,7 +170,7 @@ pub fn feed_all(state: &mut [u8], window: &mut [u8], output: &mut [u8], input: I
     // A proved loop has to end, and nothing says that the input does. No run uses these turns up.
     let mut turns = u64::MAX;
     while 0 < turns && is_feeding(stage) {
-        run = feed_once(state, window, output, run);
+        run = feed_once(streams, state, window, output, run);
         stage = run.stage;
         turns -= 1;
     }

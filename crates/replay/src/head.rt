@@ -10,14 +10,14 @@ use wire::record::resolution_from;
 pub const MOST_BYTES: usize = 11;
 
 // What the engine is opened with, and how many bytes said so.
-#[derive(Drop)]
+#[derive(Clone, Copy)]
 pub struct Settings {
     pub timeout: Millis,
     pub resolution: TimeResolution,
     pub length: usize,
 }
 
-#[derive(Drop)]
+#[derive(Clone, Copy)]
 pub enum Head {
     Settings(Settings),
     // A refusal's number: 4, or 9 where the input is cut off.

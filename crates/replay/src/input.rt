@@ -2,8 +2,11 @@
 ghost use Rattle.std.specs.Prelude.{◌≡◌, ◌-◌, ◌≤◌, length, take, drop};
 ghost use Rattle.replay.specs.Input.{Inside, AtFront, Refilled, Kept, unused_of, used_up, nothing_read, source_after, is_going, is_failed};
 
+use std::io;
+use std::io::{Read, Stdin};
+
 // Whether more may come.
-#[derive(Drop)]
+#[derive(Clone, Copy)]
 pub enum Source {
     Going,
     Over,
@@ -30,7 +33,7 @@ pub fn is_failed(source: Source) -> bool
     }
 }
 
-#[derive(Drop)]
+#[derive(Clone, Copy)]
 pub struct Input {
     // The part of the window that is not used yet.
     pub at: usize,
@@ -96,42 +99,42 @@ fn move_to_front(window: &mut [u8], at: usize, end: usize) -> usize
     count
 }
 
-// What a read's answer says: a number below 0 that it failed, 0 that the input is over.
-fn source_after(got: isize) -> Source
-    ensures { result ≡ source_after got }
+// What a read's answer says: an error that it failed, 0 that the input is over.
+fn source_after(got: &io::Result<usize>) -> Source
+    ensures { result ≡ source_after got.now }
 {
-    if got < 0 {
-        return Source::Failed;
+    match got {
+        Err(_) => Source::Failed,
+        Ok(0) => Source::Over,
+        Ok(_) => Source::Going,
     }
-    if 0 < got {
-        return Source::Going;
-    }
-    Source::Over
 }
 
 // Reads once, behind what is not used yet.
-pub fn read_more(window: &mut [u8], input: Input) -> Input
+pub fn read_more(stdin: Stdin, window: &mut [u8], input: Input) -> Input
     requires { Inside input window.old }
     ensures { Refilled input window.old result window.new }
 {
     let kept = move_to_front(window, input.at, input.end);
-    let got = libc::read(libc::STDIN_FILENO, &mut window[kept..]);
-    let came = io::count(got, &window[kept..]);
+    let mut from = stdin;
+    let got = from.read(&mut window[kept..]);
+    let source = source_after(&got);
+    let came = got.unwrap_or(0);
     Input {
         at: 0,
         end: kept + came,
-        source: source_after(got),
+        source: source,
     }
 }
 
 // The same, unless nothing more may come.
-pub fn read_on(window: &mut [u8], input: Input) -> Input
+pub fn read_on(stdin: Stdin, window: &mut [u8], input: Input) -> Input
     requires { Inside input window.old }
     ensures { Kept input window.old result window.new }
 {
     let source = input.source;
     if is_going(source) {
-        return read_more(window, input);
+        return read_more(stdin, window, input);
     }
     input
 }

@@ -5,12 +5,14 @@ use flow::time::{EndReason, FlowTime, OptEndReason};
 use listing::fields::part;
 use listing::line::{put, put_decimal};
 use stats::counts::DirectionStats;
+use std::io::{Stderr, Stdout};
+use std::process::ExitCode;
 
 // More than the longest line: a reason of 11 letters, six numbers of 20 digits and a space in front of each, a line's end.
 const MOST_LINE: usize = 144;
 
-fn print(line: &[u8], end: usize) -> bool {
-    io::write_all(libc::STDOUT_FILENO, part(line, 0, end))
+fn print(stdout: Stdout, line: &[u8], end: usize) -> bool {
+    stdout.write_all(part(line, 0, end)).is_ok()
 }
 
 fn put_reason(line: &mut [u8], reason: OptEndReason) -> usize {
@@ -55,41 +57,37 @@ fn put_record(line: &mut [u8], record: FlowRecord) -> usize {
     put(line, at, b"\n")
 }
 
-pub fn print_record(record: FlowRecord) -> bool {
+pub fn print_record(stdout: Stdout, record: FlowRecord) -> bool {
     let mut line = [0u8; MOST_LINE];
     let end = put_record(&mut line, record);
-    print(&line, end)
+    print(stdout, &line, end)
 }
 
-pub fn print_refusal(number: u8, packets: u64) -> bool {
+pub fn print_refusal(stdout: Stdout, number: u8, packets: u64) -> bool {
     let mut line = [0u8; MOST_LINE];
     let at = put_decimal(&mut line, 0, b"refused ", number as u64);
     let at = put_decimal(&mut line, at, b" after ", packets);
     let end = put(&mut line, at, b"\n");
-    print(&line, end)
+    print(stdout, &line, end)
 }
 
-pub fn print_total(totals: Totals) -> bool {
+pub fn print_total(stdout: Stdout, totals: Totals) -> bool {
     let mut line = [0u8; MOST_LINE];
     let at = put_decimal(&mut line, 0, b"total ", totals.packets);
     let at = put_decimal(&mut line, at, b" ", totals.records);
     let at = put_decimal(&mut line, at, b" ", totals.clean);
     let end = put(&mut line, at, b"\n");
-    print(&line, end)
+    print(stdout, &line, end)
 }
 
-// What is wrong outside of the input's bytes goes to standard error.
+// What is wrong outside of the input's bytes goes to standard error, and into the status of the run.
 
-pub fn complain_of_input() {
-    io::write_all(
-        libc::STDERR_FILENO,
-        b"replay: standard input cannot be read\n",
-    );
+pub fn complain_of_input(stderr: Stderr) -> ExitCode {
+    let _ = stderr.write_all(b"replay: standard input cannot be read\n");
+    ExitCode::FAILURE
 }
 
-pub fn complain_of_output() {
-    io::write_all(
-        libc::STDERR_FILENO,
-        b"replay: a line cannot be written to standard output\n",
-    );
+pub fn complain_of_output(stderr: Stderr) -> ExitCode {
+    let _ = stderr.write_all(b"replay: a line cannot be written to standard output\n");
+    ExitCode::FAILURE
 }

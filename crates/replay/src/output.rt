@@ -6,9 +6,10 @@ use crate::lines::print_record;
 use arith::saturating_add;
 use flow::record::FlowRecord;
 use flow::time::{EndReason, OptEndReason};
+use std::io::Stdout;
 use wire::record::{ReadRecord, read_record_at};
 
-#[derive(Drop)]
+#[derive(Clone, Copy)]
 pub struct Totals {
     pub packets: u64,
     pub records: u64,
@@ -67,14 +68,14 @@ fn clean_closes(record: FlowRecord) -> u64
 }
 
 // How far the records are printed: where the next one stands, and whether every line so far could be written.
-#[derive(Drop)]
+#[derive(Clone, Copy)]
 pub struct Printed {
     pub totals: Totals,
     at: usize,
     pub well: bool,
 }
 
-fn print_next(filled: &[u8], printed: Printed) -> Printed {
+fn print_next(stdout: Stdout, filled: &[u8], printed: Printed) -> Printed {
     let at = printed.at;
     let totals = printed.totals;
     match read_record_at(filled, at) {
@@ -83,7 +84,7 @@ fn print_next(filled: &[u8], printed: Printed) -> Printed {
             Printed {
                 totals: totals.with_record(clean_closes(record)),
                 at: next,
-                well: print_record(record),
+                well: print_record(stdout, record),
             }
         }
         // The engine writes nothing but records.
@@ -101,7 +102,7 @@ fn print_next(filled: &[u8], printed: Printed) -> Printed {
 }
 
 // Prints so many records, which stand one behind another.
-pub fn print_records(filled: &[u8], count: usize, totals: Totals) -> Printed {
+pub fn print_records(stdout: Stdout, filled: &[u8], count: usize, totals: Totals) -> Printed {
     let mut printed = Printed {
         totals: totals,
         at: 0,
@@ -109,7 +110,7 @@ pub fn print_records(filled: &[u8], count: usize, totals: Totals) -> Printed {
     };
     let mut left = count;
     while 0 < left && printed.well {
-        printed = print_next(filled, printed);
+        printed = print_next(stdout, filled, printed);
         left -= 1;
     }
     printed
