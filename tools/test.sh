@@ -51,14 +51,15 @@ command -v cargo >/dev/null 2>&1 || apt-get install -y cargo
 command -v cc >/dev/null 2>&1 || apt-get install -y gcc
 mkdir -p build
 
-rt ci 2>&1 | tee build/ci.txt
+(rt ci 2>&1 && echo 0 >build/ci.status || echo 1 >build/ci.status) | tee build/ci.txt
+[ "$(cat build/ci.status)" = 0 ] || exit 1
 last=$(tail -n 1 build/ci.txt)
 case $last in
 *' passed, 0 failed') ;;
 *) exit 1 ;;
 esac
 # `rt ci` passes where the text that an edit changes is gone, or where its new text cannot be read.
-if grep 'BAD EDIT' build/ci.txt; then
+if grep -E 'BAD EDIT|^rt: ok.*, [0-9]+ bad' build/ci.txt; then
     echo "test: wrong programs that were not tried"
     exit 1
 fi

@@ -117,7 +117,7 @@ failures() {
     broken "a directory as input"
     timeout "$seconds" "$program" <example.bin >/dev/full 2>"$work/err" || true
     broken "a full device as output"
-    # The reader goes after a line. Where SIGPIPE is ignored the program complains; else the system ends it.
+    # The reader goes after a line. The program complains, and ends with a status of its own.
     (trap '' PIPE && timeout "$seconds" "$program" <"$work/long.bin" 2>"$work/err" || true) | head -n 1 >"$work/out"
     broken "a closed pipe"
     (timeout "$seconds" "$program" <"$work/long.bin" 2>"$work/err" || echo "$?" >"$work/status") | head -n 1 >"$work/out"

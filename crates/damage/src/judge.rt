@@ -38,11 +38,12 @@ impl Tally {
     }
 }
 
-pub fn print_tally(tally: Tally) {
+// Whether the last line could be written, which tells of all lines: where a pipe is closed or a disk is full, it stays so.
+pub fn print_tally(tally: Tally) -> bool {
     let stdout = tally.stdout;
     print_count(stdout, b"", tally.damages);
     print_count(stdout, b" damages, ", tally.refused);
-    print(stdout, b" refused\n");
+    print(stdout, b" refused\n")
 }
 
 // Prints the line for a state, and answers whether it is sound.

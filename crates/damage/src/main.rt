@@ -22,11 +22,12 @@ use flow::time::{Millis, TimeResolution};
 use judge::Tally;
 use state::opening::{Opening, open};
 use std::io::Stdout;
+use std::process::ExitCode;
 
-fn main(rt: HostRuntime) {
+fn main(rt: HostRuntime) -> ExitCode {
     let stdout = rt.stdout();
     let mut memory = [165u8; places::MEMORY_BYTES];
-    match open(
+    let well = match open(
         &mut memory,
         places::CAPACITY,
         Millis(1000),
@@ -35,13 +36,17 @@ fn main(rt: HostRuntime) {
         Opening::Opened => show(stdout, &mut memory),
         Opening::Capacity => listing::line::print(stdout, b"not opened: capacity\n"),
         Opening::Memory => listing::line::print(stdout, b"not opened: memory\n"),
+    };
+    if well {
+        return ExitCode::SUCCESS;
     }
+    ExitCode::FAILURE
 }
 
-fn show(stdout: Stdout, memory: &mut [u8]) {
+fn show(stdout: Stdout, memory: &mut [u8]) -> bool {
     flows::put_flows(memory);
     judge::stands(stdout, memory, b"as it stands");
-    judge::print_tally(damaged(stdout, memory));
+    judge::print_tally(damaged(stdout, memory))
 }
 
 // All damages, kind by kind.

@@ -55,10 +55,9 @@ impl Tally {
     }
 }
 
-pub fn print(stdout: Stdout, tally: Tally) {
+pub fn print(stdout: Stdout, tally: Tally) -> bool {
     if is_empty(tally) {
-        say(stdout, b"no lines\n");
-        return;
+        return say(stdout, b"no lines\n");
     }
     print_count(stdout, b"packets ", tally.packets);
     print_count(stdout, b", folds ", tally.folds);
@@ -66,7 +65,7 @@ pub fn print(stdout: Stdout, tally: Tally) {
     print_count(stdout, b", records ", tally.records);
     print_count(stdout, b", refusals ", tally.refusals);
     print_count(stdout, b", cuts ", tally.cuts);
-    print_verdict(stdout, tally.differ);
+    print_verdict(stdout, tally.differ)
 }
 
 fn is_empty(tally: Tally) -> bool {

@@ -64,7 +64,7 @@ pub fn unreadable(line: &[u8], out: &mut [u8]) -> usize {
     put(out, at, line)
 }
 
-// A write that fails ends nothing here: what is missing from the output shows it.
-pub fn print(stdout: Stdout, text: &[u8]) {
-    let _ = stdout.write_all(text);
+// Whether the text could be written.
+pub fn print(stdout: Stdout, text: &[u8]) -> bool {
+    stdout.write_all(text).is_ok()
 }

@@ -21,12 +21,12 @@ pub fn print_count(stdout: Stdout, name: &[u8], n: u64) {
     let _ = print!(stdout; "{n}");
 }
 
-// How many of all lines differ: the end of the summary.
-pub fn print_verdict(stdout: Stdout, differ: u64) {
+// How many of all lines differ: the end of the summary. Answers whether it could be written, which tells of all lines: where a pipe is
+// closed or a disk is full, it stays so.
+pub fn print_verdict(stdout: Stdout, differ: u64) -> bool {
     if differ == 0 {
-        print(stdout, b": all agree\n");
-    } else {
-        print_count(stdout, b": ", differ);
-        print(stdout, b" differ\n");
+        return print(stdout, b": all agree\n");
     }
+    print_count(stdout, b": ", differ);
+    print(stdout, b" differ\n")
 }

@@ -1,6 +1,7 @@
 -- Input in pieces: what was read and is not used yet is a part of a window. No byte of it is lost when more is read.
-use Rattle.std.specs.Prelude.{ℕ, zero, suc, ◌+◌, ◌-◌, ◌≤◌, ◌<◌, min, ◌≡◌, refl, List, ◌∷◌, Bool, true, false, length, take, drop, set, get_or, Result, Ok, Err}
-use Rattle.std.proofs.Common.{sym, ap, ◌∙◌, arith, add-one, length-set, length-drop, take-suc, take-suc-set, drop-cons, drop-set-lt, get_or-drop}
+use Rattle.std.specs.Prelude.{ℕ, zero, suc, ◌+◌, ◌-◌, ◌≤◌, ◌<◌, min, ◌≡◌, refl, List, ◌∷◌, Bool, true, false, length, take, drop, set, get_or, Result, Ok, Err, ℤ, pos, negsuc}
+use Rattle.std.proofs.Common.{sym, ap, ◌∙◌, arith, add-one, ltb-true, ltb-false, length-set, length-drop, take-suc, take-suc-set, drop-cons, drop-set-lt, get_or-drop}
+use Rattle.std.specs.Int.Signed.{lt_z}
 use Rattle.std.specs.Result.{result_unwrap_or}
 use Rattle.std.specs.Io.{ReadsAtMost}
 use Rattle.std.proofs.Math.Seq.{take-take}
@@ -11,11 +12,16 @@ use Rattle.replay.specs.declared.input.Source.{Source}
 abbrev pub nothing_read : Input
 nothing_read = record { at = 0; end = 0; source = Source.Going }
 
--- what a read's answer says: an error is that it failed, 0 is the end
-abbrev pub source_after : {E : Type 0} → Result ℕ E → Source
-source_after (Err e) = Source.Failed
-source_after (Ok zero) = Source.Over
-source_after (Ok (suc k)) = Source.Going
+-- what a read's answer says: below 0 it failed, 0 is the end
+abbrev pub source_after : ℤ → Source
+source_after (negsuc k) = Source.Failed
+source_after (pos zero) = Source.Over
+source_after (pos (suc k)) = Source.Going
+
+-- a read's answer as a number: an error is one below 0
+abbrev pub answer_of : {E : Type 0} → Result ℕ E → ℤ
+answer_of (Err e) = negsuc zero
+answer_of (Ok n) = pos n
 
 -- more may come
 abbrev pub is_going : Source → Bool
@@ -128,13 +134,38 @@ nothing_inside i window e = rw e (record { ordered = omega arith; within = omega
 pub used_inside : (i j : Input) (window : List ℕ) (count : ℕ) → Inside i window → j ≡ used_up i count → Inside j window
 used_inside i j window count h e = rw e (record { ordered = omega arith; within = h.within })
 
+-- the ways out of telling what a read says
+module _ (got : ℤ) where
+  pub read_failed : lt_z got (pos 0) ≡ true → Source.Failed ≡ source_after got
+  read_failed h = go got h
+    where
+      go : (z : ℤ) → lt_z z (pos 0) ≡ true → Source.Failed ≡ source_after z
+      go (negsuc k) e = refl
+      go (pos k) e = absurd (omega (arith, ltb-true k 0 e))
+
+  pub read_going : lt_z (pos 0) got ≡ true → Source.Going ≡ source_after got
+  read_going h = go got h
+    where
+      go : (z : ℤ) → lt_z (pos 0) z ≡ true → Source.Going ≡ source_after z
+      go (negsuc k) e = let z : ◌≡◌ {A = ℕ} 0 1 = cc in absurd (omega arith)
+      go (pos zero) e = absurd (omega (arith, ltb-true 0 0 e))
+      go (pos (suc k)) e = refl
+
+  pub read_over : lt_z got (pos 0) ≡ false → lt_z (pos 0) got ≡ false → Source.Over ≡ source_after got
+  read_over h g = go got h g
+    where
+      go : (z : ℤ) → lt_z z (pos 0) ≡ false → lt_z (pos 0) z ≡ false → Source.Over ≡ source_after z
+      go (negsuc k) e f = let z : ◌≡◌ {A = ℕ} 0 1 = cc in absurd (omega arith)
+      go (pos zero) e f = refl
+      go (pos (suc k)) e f = absurd (omega (arith, ltb-false 0 (suc k) f))
+
 -- what a read brought, behind an error nothing: bytes that were there to be read, and some where more may come
 module _ {E : Type 0} where
   pub came_within : (got : Result ℕ E) (came : ℕ) (room : List ℕ) → ReadsAtMost got room → came ≡ result_unwrap_or got 0 → came ≤ length room
   came_within (Err e) came room r k = omega arith
   came_within (Ok n) came room r k = omega (arith, r.0)
 
-  pub brought : (got : Result ℕ E) (source : Source) (came : ℕ) → source ≡ source_after got → came ≡ result_unwrap_or got 0 → source ≡ Source.Going → 0 < came
+  pub brought : (got : Result ℕ E) (source : Source) (came : ℕ) → source ≡ source_after (answer_of got) → came ≡ result_unwrap_or got 0 → source ≡ Source.Going → 0 < came
   brought (Err e) source came k c g = let z : ◌≡◌ {A = ℕ} 0 1 = cc in absurd (omega arith)
   brought (Ok zero) source came k c g = let z : ◌≡◌ {A = ℕ} 0 1 = cc in absurd (omega arith)
   brought (Ok (suc n)) source came k c g = omega arith

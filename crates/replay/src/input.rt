@@ -1,6 +1,6 @@
 // Standard input, read in pieces. What was read and is not used yet is a part of a window that the caller keeps.
 ghost use Rattle.std.specs.Prelude.{◌≡◌, ◌-◌, ◌≤◌, length, take, drop};
-ghost use Rattle.replay.specs.Input.{Inside, AtFront, Refilled, Kept, unused_of, used_up, nothing_read, source_after, is_going, is_failed};
+ghost use Rattle.replay.specs.Input.{Inside, AtFront, Refilled, Kept, unused_of, used_up, nothing_read, source_after, answer_of, is_going, is_failed};
 
 use std::io;
 use std::io::{Read, Stdin};
@@ -101,7 +101,7 @@ fn move_to_front(window: &mut [u8], at: usize, end: usize) -> usize
 
 // What a read's answer says: an error that it failed, 0 that the input is over.
 fn source_after(got: &io::Result<usize>) -> Source
-    ensures { result ≡ source_after got.now }
+    ensures { result ≡ source_after (answer_of got.now) }
 {
     match got {
         Err(_) => Source::Failed,

@@ -13,14 +13,18 @@ use judge::take_line;
 use listing::fields::part;
 use listing::input::{Found, Input, next_line};
 use std::io::{Stdin, Stdout};
+use std::process::ExitCode;
 use tally::Tally;
 
-fn main(rt: HostRuntime) {
+fn main(rt: HostRuntime) -> ExitCode {
     let mut chunk = io::buffer();
     let mut line = [0u8; judge::MOST_LINE];
     let stdout = rt.stdout();
     let tally = replay(rt.stdin(), stdout, &mut chunk, &mut line);
-    tally::print(stdout, tally);
+    if tally::print(stdout, tally) {
+        return ExitCode::SUCCESS;
+    }
+    ExitCode::FAILURE
 }
 
 // Takes the whole list, a line at a time. A line that does not fit into `line` is cut off, and never counts as one that agrees.

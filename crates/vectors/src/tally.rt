@@ -47,16 +47,15 @@ impl Tally {
     }
 }
 
-pub fn print(stdout: Stdout, tally: Tally) {
+pub fn print(stdout: Stdout, tally: Tally) -> bool {
     if is_empty(tally) {
-        say(stdout, b"no lines\n");
-        return;
+        return say(stdout, b"no lines\n");
     }
     print_count(stdout, b"numbers ", tally.numbers);
     print_count(stdout, b", refusals ", tally.refusals);
     print_count(stdout, b", keys ", tally.keys);
     print_count(stdout, b", cuts ", tally.cuts);
-    print_verdict(stdout, tally.differ);
+    print_verdict(stdout, tally.differ)
 }
 
 fn is_empty(tally: Tally) -> bool {
