@@ -20,7 +20,7 @@ use Rattle.flow.specs.declared.time.EndReason.TheVariants.{IdleTimeout, Fin, Cap
 use Rattle.rules.specs.Rules.{Refusal, Room, number_of, Terms, Settings}
 use Rattle.rules.specs.Rules as R
 use Rattle.rules.specs.Demand.{Call, feed, sweep, drain, Run, step, run}
-use Rattle.rules.specs.Sound.{KeyLaws, TwoWay, HeldLaws, FedInRange, NotRoom, Pairs, turned, Unturned, Clear}
+use Rattle.rules.specs.Sound.{KeyLaws, TwoWay, HeldLaws, FedInRange, NotRoom, Pairs, turned, Unturned, Clear, Fine, FineRecord, Flows, FineAnswer, FineTold, FineRun}
 
 -- ## Pairs of a list
 
@@ -114,42 +114,31 @@ module _ (W : Terms) where
     -- ## One packet
 
     module _ (InRange : W.Packet → Type 0) (Good : W.Key → W.Held → Type 0) (held : HeldLaws W Ranged InRange Good) (s : Settings) where
-      abbrev pub Fine : R.Flow W → Type 0
-      Fine f = Good f.name f.held
-
-      -- of a record that is handed out
-      abbrev pub FineRecord : R.Finished W → Type 0
-      FineRecord f = Good f.name f.held
-
-      names : (l : List (R.Flow W)) → All Fine l → All Named l
-      names l a = all_more Fine Named (λ f g. held.named f.name f.held g) l a
+      names : (l : List (R.Flow W)) → All (Fine W Good) l → All Named l
+      names l a = all_more (Fine W Good) Named (λ f g. held.named f.name f.held g) l a
 
       -- the flow that takes the packet is one of the others', or opens clear of them
       abbrev Fit : W.Packet → List (R.Flow W) → R.Taker W → Type 0
-      Fit p l (R.old d f) = Member l f × Fine f × TwoWay d (W.association f.name)
+      Fit p l (R.old d f) = Member l f × Fine W Good f × TwoWay d (W.association f.name)
       Fit p l R.new = All (Clear W (R.taking W s p R.new)) l
 
-      fit : (p : W.Packet) → InRange p → (l : List (R.Flow W)) → Pairs (Clear W) l → All Fine l → Fit p l (R.taker W p l)
+      fit : (p : W.Packet) → InRange p → (l : List (R.Flow W)) → Pairs (Clear W) l → All (Fine W Good) l → Fit p l (R.taker W p l)
       fit p ok l a g =
-          go (R.under W (R.key_of W p) l) refl (member l a (R.key_of W p)) (any_under W Fine l g (R.key_of W p)) (W.association (W.key p)) refl
-          (R.under W (R.reversed_of W p) l) refl (member l a (R.reversed_of W p)) (any_under W Fine l g (R.reversed_of W p)) (keyed l a (R.reversed_of W p))
+          go (R.under W (R.key_of W p) l) refl (member l a (R.key_of W p)) (any_under W (Fine W Good) l g (R.key_of W p)) (W.association (W.key p)) refl
+          (R.under W (R.reversed_of W p) l) refl (member l a (R.reversed_of W p)) (any_under W (Fine W Good) l g (R.reversed_of W p)) (keyed l a (R.reversed_of W p))
         where
           opened : All (λ x. equal (R.key_of W p) (R.by_key W x) ≡ false) l
               → (W.association (W.key p) ≡ false → All (λ x. equal (R.reversed_of W p) (R.by_key W x) ≡ false) l) → All (Clear W (R.taking W s p R.new)) l
           opened b c = new_clear (R.taking W s p R.new) (held.ranged p ok) l (names l g) b c
 
-          go : (o : Option (R.Flow W)) → R.under W (R.key_of W p) l ≡ o → Any W (Member l) o → Any W Fine o → (b : Bool) → W.association (W.key p) ≡ b
-              → (q : Option (R.Flow W)) → R.under W (R.reversed_of W p) l ≡ q → Any W (Member l) q → Any W Fine q → Any W (λ f. R.reversed_of W p ≡ R.by_key W f) q
+          go : (o : Option (R.Flow W)) → R.under W (R.key_of W p) l ≡ o → Any W (Member l) o → Any W (Fine W Good) o → (b : Bool) → W.association (W.key p) ≡ b
+              → (q : Option (R.Flow W)) → R.under W (R.reversed_of W p) l ≡ q → Any W (Member l) q → Any W (Fine W Good) q → Any W (λ f. R.reversed_of W p ≡ R.by_key W f) q
               → Fit p l (R.chosen W o b q)
           go (some f) e m h b k q e' m' h' z = (m, h, tt)
           go none e m h true k q e' m' h' z = opened (absent (R.key_of W p) l e) (λ n. clash k n)
           go none e m h false k (some f) e' m' h' z =
               (m', h', sym (laws.kind (W.key p) f.name (held.ranged p ok) (held.named f.name f.held h') z) ∙ k)
           go none e m h false k none e' m' h' z = opened (absent (R.key_of W p) l e) (λ n. absent (R.reversed_of W p) l e')
-
-      -- what sound means of the open flows: clear of each other, each fine, and within the capacity
-      abbrev pub Flows : List (R.Flow W) → Type 0
-      Flows l = Pairs (Clear W) l × All Fine l × (length l ≤ s.capacity)
 
       length_insert : (f : R.Flow W) (l : List (R.Flow W)) → length (insert (R.by_key W) f l) ≡ suc (length l)
       length_insert f [] = refl
@@ -166,31 +155,31 @@ module _ (W : Terms) where
       length_those test (f ∷ l) =
           either (λ (m : List (R.Flow W)). length m ≤ suc (length l)) (test f) (omega (arith, length_those test l)) (omega (arith, length_those test l))
 
-      flows_those : (test : R.Flow W → Bool) (l : List (R.Flow W)) → Flows l → Flows (those test l)
-      flows_those test l a = (pairs_those (Clear W) test l a.0, all_those Fine test l a.1, omega (arith, length_those test l, a.2))
+      flows_those : (test : R.Flow W → Bool) (l : List (R.Flow W)) → Flows W Good s l → Flows W Good s (those test l)
+      flows_those test l a = (pairs_those (Clear W) test l a.0, all_those (Fine W Good) test l a.1, omega (arith, length_those test l, a.2))
 
-      flows_without : (k : List ℕ) (l : List (R.Flow W)) → Flows l → Flows (R.without W k l)
-      flows_without k l a = (pairs_out k l a.0, all_out Fine k l a.1, omega (arith, length_without k l, a.2))
+      flows_without : (k : List ℕ) (l : List (R.Flow W)) → Flows W Good s l → Flows W Good s (R.without W k l)
+      flows_without k l a = (pairs_out k l a.0, all_out (Fine W Good) k l a.1, omega (arith, length_without k l, a.2))
 
-      flows_apart : (o : Option (R.Flow W)) (l : List (R.Flow W)) → Flows l → Flows (R.apart W o l)
+      flows_apart : (o : Option (R.Flow W)) (l : List (R.Flow W)) → Flows W Good s l → Flows W Good s (R.apart W o l)
       flows_apart none l a = a
       flows_apart (some f) l a = flows_without (R.by_key W f) l a
 
       -- the flow that took the packet is fine
-      taking_fine : (p : W.Packet) → InRange p → (l : List (R.Flow W)) (t : R.Taker W) → Fit p l t → R.is_spent W p t ≡ false → Fine (R.taking W s p t)
+      taking_fine : (p : W.Packet) → InRange p → (l : List (R.Flow W)) (t : R.Taker W) → Fit p l t → R.is_spent W p t ≡ false → Fine W Good (R.taking W s p t)
       taking_fine p ok l (R.old d f) h spent = held.counts d p f.name f.held ok h.1 h.2 spent
       taking_fine p ok l R.new h spent = held.begins s.resolution p ok
 
       -- .. in its place
-      flows_taken : (p : W.Packet) (l : List (R.Flow W)) (t : R.Taker W) → Flows l → Fit p l t → R.is_full W s l t ≡ false → Fine (R.taking W s p t)
-          → Flows (insert (R.by_key W) (R.taking W s p t) (R.beside W t l)) × Flows (R.beside W t l)
+      flows_taken : (p : W.Packet) (l : List (R.Flow W)) (t : R.Taker W) → Flows W Good s l → Fit p l t → R.is_full W s l t ≡ false → Fine W Good (R.taking W s p t)
+          → Flows W Good s (insert (R.by_key W) (R.taking W s p t) (R.beside W t l)) × Flows W Good s (R.beside W t l)
       flows_taken p l (R.old d f) a h full fine =
           let rest = R.without W (R.by_key W f) l in
           let g = R.taking W s p (R.old d f) in
           let out = flows_without (R.by_key W f) l a in (
             (
               pairs_insert (Clear W) clear_flip (R.by_key W) g rest h.0.1 out.0,
-              all_insert Fine (R.by_key W) g rest fine out.1,
+              all_insert (Fine W Good) (R.by_key W) g rest fine out.1,
               omega (arith, length_insert g rest, h.0.2, a.2),
             ),
             out,
@@ -199,34 +188,34 @@ module _ (W : Terms) where
           let g = R.taking W s p R.new in (
             (
               pairs_insert (Clear W) clear_flip (R.by_key W) g l h a.0,
-              all_insert Fine (R.by_key W) g l fine a.1,
+              all_insert (Fine W Good) (R.by_key W) g l fine a.1,
               omega (arith, length_insert g l, leb-false s.capacity (length l) full),
             ),
             a,
           )
 
-      flows_keeping : (r : Option EndReason) (f : R.Flow W) (l : List (R.Flow W)) → Flows (insert (R.by_key W) f l) → Flows l → Flows (R.keeping W r f l)
+      flows_keeping : (r : Option EndReason) (f : R.Flow W) (l : List (R.Flow W)) → Flows W Good s (insert (R.by_key W) f l) → Flows W Good s l → Flows W Good s (R.keeping W r f l)
       flows_keeping none f l a b = a
       flows_keeping (some r) f l a b = b
 
       -- ## The records that are handed out
 
-      finishing : (r : EndReason) (l : List (R.Flow W)) → All Fine l → All FineRecord (map (R.finish_or W r) l)
-      finishing r l a = all_map Fine FineRecord (R.finish_or W r) (λ f g. g) l a
+      finishing : (r : EndReason) (l : List (R.Flow W)) → All (Fine W Good) l → All (FineRecord W Good) (map (R.finish_or W r) l)
+      finishing r l a = all_map (Fine W Good) (FineRecord W Good) (R.finish_or W r) (λ f g. g) l a
 
-      swept_fine : (w : ℕ) (l : List (R.Flow W)) → All Fine l → All FineRecord (R.swept W s w l)
+      swept_fine : (w : ℕ) (l : List (R.Flow W)) → All (Fine W Good) l → All (FineRecord W Good) (R.swept W s w l)
       swept_fine w l a =
           finishing IdleTimeout (sort (R.by_end W) (those (R.leaves W s w) l))
-          (all_sort Fine (R.by_end W) (those (R.leaves W s w) l) (all_those Fine (R.leaves W s w) l a))
+          (all_sort (Fine W Good) (R.by_end W) (those (R.leaves W s w) l) (all_those (Fine W Good) (R.leaves W s w) l a))
 
-      drained_fine : (l : List (R.Flow W)) → All Fine l → All FineRecord (R.drained W l)
-      drained_fine l a = finishing CaptureEnd (sort (R.by_key W) l) (all_sort Fine (R.by_key W) l a)
+      drained_fine : (l : List (R.Flow W)) → All (Fine W Good) l → All (FineRecord W Good) (R.drained W l)
+      drained_fine l a = finishing CaptureEnd (sort (R.by_key W) l) (all_sort (Fine W Good) (R.by_key W) l a)
 
-      ended_fine : (r : EndReason) (o : Option (R.Flow W)) → Any W Fine o → All FineRecord (R.ended W r o)
+      ended_fine : (r : EndReason) (o : Option (R.Flow W)) → Any W (Fine W Good) o → All (FineRecord W Good) (R.ended W r o)
       ended_fine r none h = tt
       ended_fine r (some f) h = (h, tt)
 
-      ended_for-fine : (r : Option EndReason) (f : R.Flow W) → Fine f → All FineRecord (R.ended_for W r f)
+      ended_for-fine : (r : Option EndReason) (f : R.Flow W) → Fine W Good f → All (FineRecord W Good) (R.ended_for W r f)
       ended_for-fine none f h = tt
       ended_for-fine (some r) f h = (h, tt)
 
@@ -235,12 +224,7 @@ module _ (W : Terms) where
       cases P true f g = f refl
       cases P false f g = g refl
 
-      -- an unrefused packet leaves the flows sound, and hands out fine records
-      abbrev pub FineAnswer : R.Answer W → Type 0
-      FineAnswer (R.refused r) = Unit {0}
-      FineAnswer (R.done x) = Flows x.engine.flows × All FineRecord x.finished
-
-      module _ (room : ℕ) (p : W.Packet) (ok : InRange p) (e : R.Engine W) (a : Flows e.flows) where
+      module _ (room : ℕ) (p : W.Packet) (ok : InRange p) (e : R.Engine W) (a : Flows W Good s e.flows) where
         abbrev w : ℕ
         w = R.clock_at W s e.clock (W.time p)
 
@@ -259,14 +243,14 @@ module _ (W : Terms) where
         abbrev d : R.Done W
         d = R.steps34 W s w (R.swept W s w e.flows) g p l t
 
-        stays : Flows fs
+        stays : Flows W Good s fs
         stays = flows_those (λ f. not (R.leaves W s w f)) e.flows a
 
-        left : Flows l
+        left : Flows W Good s l
         left = flows_apart g fs stays
 
         -- what a packet that is neither Full nor Spent leaves open and hands out
-        pub done_fine : R.is_full W s l t ≡ false → R.is_spent W p t ≡ false → Flows d.engine.flows × All FineRecord d.finished
+        pub done_fine : R.is_full W s l t ≡ false → R.is_spent W p t ≡ false → Flows W Good s d.engine.flows × All (FineRecord W Good) d.finished
         done_fine full spent =
             let fits = fit p ok l left.0 left.1 in
             let fine = taking_fine p ok l t fits spent in
@@ -274,22 +258,22 @@ module _ (W : Terms) where
             let r = R.ending W g p t in
             let f = R.taking W s p t in (
               flows_keeping r f (R.beside W t l) taken.0 taken.1,
-              all_append FineRecord (R.swept W s w e.flows) (R.ended W Fin g ++ R.ended_for W r f) (swept_fine w e.flows a.1)
-                  (all_append FineRecord (R.ended W Fin g) (R.ended_for W r f)
-                  (ended_fine Fin g (any_reused W Fine p fs (any_under W Fine fs stays.1))) (ended_for-fine r f fine)),
+              all_append (FineRecord W Good) (R.swept W s w e.flows) (R.ended W Fin g ++ R.ended_for W r f) (swept_fine w e.flows a.1)
+                  (all_append (FineRecord W Good) (R.ended W Fin g) (R.ended_for W r f)
+                  (ended_fine Fin g (any_reused W (Fine W Good) p fs (any_under W (Fine W Good) fs stays.1))) (ended_for-fine r f fine)),
             )
 
-        pub packet_fine : FineAnswer (R.one_packet W s room p e)
+        pub packet_fine : FineAnswer W Good s (R.one_packet W s room p e)
         unfolding R.one_packet
         packet_fine =
-            cases FineAnswer (R.is_full W s l t) (λ _. tt)
-            (λ full. cases FineAnswer (R.is_spent W p t) (λ _. tt)
-            (λ spent. either FineAnswer (leb (R.sizes W d.finished) room) (done_fine full spent) tt))
+            cases (FineAnswer W Good s) (R.is_full W s l t) (λ _. tt)
+            (λ full. cases (FineAnswer W Good s) (R.is_spent W p t) (λ _. tt)
+            (λ spent. either (FineAnswer W Good s) (leb (R.sizes W d.finished) room) (done_fine full spent) tt))
 
         -- ## "Room for (capacity + 1) × 358 bytes always suffices for one packet."
 
         module _ (m : ℕ) (small : (k : W.Key) (r : EndReason) (h : W.Held) → Good k h → W.size k r h ≤ m) (enough : (s.capacity + 1) * m ≤ room) where
-          sizes_most : (out : List (R.Finished W)) → All FineRecord out → R.sizes W out ≤ length out * m
+          sizes_most : (out : List (R.Finished W)) → All (FineRecord W Good) out → R.sizes W out ≤ length out * m
           sizes_most [] b = omega arith
           sizes_most (f ∷ out) b = omega (arith, small f.name f.reason f.held b.0, sizes_most out b.1)
 
@@ -336,44 +320,37 @@ module _ (W : Terms) where
 
       -- ## Calls
 
-      -- a call's answer
-      abbrev pub FineTold : R.Told W → Type 0
-      FineTold x = Flows x.engine.flows × All FineRecord x.finished
-
-      next_fine : (e : R.Engine W) (a : R.Answer W) (rest : R.Done W → R.Told W) → Flows e.flows → FineAnswer a → ((x : R.Done W) → Flows x.engine.flows → FineTold (rest x)) → FineTold (R.next W a e rest)
+      next_fine : (e : R.Engine W) (a : R.Answer W) (rest : R.Done W → R.Told W) → Flows W Good s e.flows → FineAnswer W Good s a → ((x : R.Done W) → Flows W Good s x.engine.flows → FineTold W Good s (rest x)) → FineTold W Good s (R.next W a e rest)
       next_fine e (R.refused r) rest h k n = (h, tt)
       next_fine e (R.done x) rest h k n =
           let more = n x k.0 in
-          (more.0, all_append FineRecord x.finished (rest x).finished k.1 more.1)
+          (more.0, all_append (FineRecord W Good) x.finished (rest x).finished k.1 more.1)
 
-      pub fed_fine : (room : ℕ) (ps : List W.Packet) → All InRange ps → (ends : Refusal) (e : R.Engine W) → Flows e.flows → FineTold (R.feed_all W s room ps ends e)
+      pub fed_fine : (room : ℕ) (ps : List W.Packet) → All InRange ps → (ends : Refusal) (e : R.Engine W) → Flows W Good s e.flows → FineTold W Good s (R.feed_all W s room ps ends e)
       unfolding R.feed_all
       fed_fine room [] ok ends e a = (a, tt)
       fed_fine room (p ∷ ps) ok ends e a =
           next_fine e (R.one_packet W s room p e) (λ x. R.feed_all W s (room - R.sizes W x.finished) ps ends x.engine) a
           (packet_fine room p ok.0 e a) (λ x b. fed_fine (room - R.sizes W x.finished) ps ok.1 ends x.engine b)
 
-      pub sweep_fine : (room x : ℕ) (e : R.Engine W) → Flows e.flows → FineTold (R.sweep_at W s room x e)
+      pub sweep_fine : (room x : ℕ) (e : R.Engine W) → Flows W Good s e.flows → FineTold W Good s (R.sweep_at W s room x e)
       unfolding R.sweep_at
       sweep_fine room x e a =
           let w = R.clock_at W s e.clock x in
-          either FineTold (leb (R.sizes W (R.swept W s w e.flows)) room)
+          either (FineTold W Good s) (leb (R.sizes W (R.swept W s w e.flows)) room)
           (flows_those (λ f. not (R.leaves W s w f)) e.flows a, swept_fine w e.flows a.1) (a, tt)
 
-      pub drain_fine : (room : ℕ) (e : R.Engine W) → Flows e.flows → FineTold (R.drain_all W room e)
+      pub drain_fine : (room : ℕ) (e : R.Engine W) → Flows W Good s e.flows → FineTold W Good s (R.drain_all W room e)
       unfolding R.drain_all
       drain_fine room e a =
-          either FineTold (leb (R.sizes W (R.drained W e.flows)) room) ((tt, tt, omega arith), drained_fine e.flows a.1) (a, tt)
+          either (FineTold W Good s) (leb (R.sizes W (R.drained W e.flows)) room) ((tt, tt, omega arith), drained_fine e.flows a.1) (a, tt)
 
       -- ## Through any calls
 
-      abbrev pub FineRun : Run W → Type 0
-      FineRun r = Flows r.engine.flows × All FineRecord r.finished
+      onto : (r : Run W) (x : R.Told W) → FineRun W Good s r → FineTold W Good s x → All (FineRecord W Good) (r.finished ++ x.finished)
+      onto r x a b = all_append (FineRecord W Good) r.finished x.finished a.1 b.1
 
-      onto : (r : Run W) (x : R.Told W) → FineRun r → FineTold x → All FineRecord (r.finished ++ x.finished)
-      onto r x a b = all_append FineRecord r.finished x.finished a.1 b.1
-
-      pub run_fine : (cs : List (Call W.Packet)) → FedInRange InRange cs → (r : Run W) → FineRun r → FineRun (run W s cs r)
+      pub run_fine : (cs : List (Call W.Packet)) → FedInRange InRange cs → (r : Run W) → FineRun W Good s r → FineRun W Good s (run W s cs r)
       run_fine [] ok r a = a
       run_fine (feed room ps ends ∷ cs) ok r a =
           let b = fed_fine room ps ok.0 ends r.engine a.0 in

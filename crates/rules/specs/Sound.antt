@@ -1,15 +1,15 @@
 -- What is asked of terms so that calls keep a state sound: no key twice, no flow under another's reversed key (associations apart).
 -- That they do stands in proofs/SoundLaws.antt. Assumes nothing.
-use Rattle.std.specs.Prelude.{◌≡◌, Bool, false, ℕ}
+use Rattle.std.specs.Prelude.{◌≡◌, Bool, false, ℕ, ◌≤◌, length}
 use mathlib.Core.List.{List, [], ◌∷◌}
 use Rattle.rules.specs.Order.{equal}
 use Rattle.rules.specs.Totals.{All}
 use Rattle.flow.specs.declared.time.TimeResolution.{TimeResolution}
 use Rattle.flow.specs.declared.record.Direction.{Direction}
 use Rattle.flow.specs.declared.record.Direction.TheVariants.{Forward, Reverse}
-use Rattle.rules.specs.Rules.{Room, Terms}
+use Rattle.rules.specs.Rules.{Room, Terms, Settings}
 use Rattle.rules.specs.Rules as R
-use Rattle.rules.specs.Demand.{Call, feed, sweep, drain}
+use Rattle.rules.specs.Demand.{Call, feed, sweep, drain, Run}
 
 -- what the rules need of keys in range: reversal turned round, and a key and its reverse are both associations or neither
 pub record KeyLaws (W : Terms) (Ranged : W.Key → Type 0) : Type 0 where
@@ -60,3 +60,32 @@ module _ (W : Terms) where
   -- two flows that may stand side by side
   abbrev pub Clear : R.Flow W → R.Flow W → Type 0
   Clear f g = (equal (R.by_key W f) (R.by_key W g) ≡ false) × Unturned f g × Unturned g f
+
+  -- ## Fine flows: Good says what is asked of a flow's key and of what it holds
+
+  module _ (Good : W.Key → W.Held → Type 0) where
+    -- of an open flow
+    abbrev pub Fine : R.Flow W → Type 0
+    Fine f = Good f.name f.held
+
+    -- of a record that is handed out
+    abbrev pub FineRecord : R.Finished W → Type 0
+    FineRecord f = Good f.name f.held
+
+    module _ (s : Settings) where
+      -- what sound means of the open flows: clear of each other, each fine, and within the capacity
+      abbrev pub Flows : List (R.Flow W) → Type 0
+      Flows l = Pairs Clear l × All Fine l × (length l ≤ s.capacity)
+
+      -- an unrefused packet leaves the flows sound, and hands out fine records
+      abbrev pub FineAnswer : R.Answer W → Type 0
+      FineAnswer (R.refused r) = Unit {0}
+      FineAnswer (R.done x) = Flows x.engine.flows × All FineRecord x.finished
+
+      -- a call's answer
+      abbrev pub FineTold : R.Told W → Type 0
+      FineTold x = Flows x.engine.flows × All FineRecord x.finished
+
+      -- what a run of calls has come to
+      abbrev pub FineRun : Run W → Type 0
+      FineRun r = Flows r.engine.flows × All FineRecord r.finished
