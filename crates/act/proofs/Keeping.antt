@@ -1,9 +1,9 @@
 -- The flow that took a packet is kept in its slot. Assumes nothing.
+use Rattle.std.specs.Prelude.{None, Option, Some}
 use Prim.Native.Nat.{ℕ, ◌≤◌, ◌<◌}
 use mathlib.Core.Path.{◌≡◌, refl, sym, ap, ◌∙◌, subst}
 use mathlib.Core.Bool.{Bool, true, false, cond}
 use mathlib.Core.List.{List, []}
-use mathlib.Core.Option.{Option, some}
 use native.Mathlib.Omega.{arith}
 use borrow.Author.Tests.{eqb-true, eqb-false}
 use lib.Dec.{eqb}
@@ -12,7 +12,6 @@ use lib.Seq.{get_or-set_same, set-get_or, set-set}
 use Rattle.memory.specs.Bytes.{patch, bytes_of}
 use Rattle.queue.specs.Tree.{DueSet, Sound}
 use Rattle.slots.specs.Table.{slot, slots, is_used, key_of}
-use Rattle.slots.specs.declared.Found.{Found}
 use Rattle.slots.proofs.Laws.{length_slots}
 use Rattle.table.specs.View.{View, view, slot_of, with_slot}
 use Rattle.table.specs.Due.{end_of, due_of, due_for, DuePut}
@@ -25,7 +24,6 @@ use Rattle.index.specs.Reversed.{Absent}
 use Rattle.key.specs.Key.{reversed_key}
 use Rattle.key.specs.KeyTheorems.{key_at_most}
 use Rattle.key.specs.declared.key.FlowKey.{FlowKey}
-use Rattle.flow.specs.declared.time.OptEndReason.TheVariants as Open
 use Rattle.flow.specs.declared.record.FlowRecord.{FlowRecord}
 use Rattle.rules.proofs.OrderLaws.{clash}
 use Rattle.rules.specs.Rules.{Flow}
@@ -76,9 +74,9 @@ placed_new T now i a b p used = go (eqb T 0) refl
 -- ## The slot once the flow has its seat, and once its record is stored
 
 -- the slot that was found as it was, or the free slot with the key
-abbrev seated_slot : Found → List ℕ → List ℕ → List ℕ
-seated_slot (Found.At i) bytes b = b
-seated_slot Found.Nothing bytes b = keyed_slot bytes b
+abbrev seated_slot : Option ℕ → List ℕ → List ℕ → List ℕ
+seated_slot (Some i) bytes b = b
+seated_slot None bytes b = keyed_slot bytes b
 
 same_slot : (c i : ℕ) (s s' : List ℕ) → s' ≡ s → view c s' ≡ with_slot i (slot_of (view c s).table i) (view c s)
 same_slot c i s s' e = ap (view c) e ∙ view_ext refl (sym (set-get_or (slots s c) i [])) refl refl
@@ -110,7 +108,7 @@ module _ (c i due : ℕ) (r : FlowRecord) (b s s1 ws s2 s3 : List ℕ) (low : i 
 -- ## A flow that has a slot
 
 module _ (c T : ℕ) (name : FlowKey) (r : FlowRecord) (s index free : List ℕ) (busy : Busy c T s index free) (flow : SoundFlow name r)
-    (unended : r.time.end_reason ≡ Open.Absent) (i : ℕ) (old : OldFlow c name r s i) where
+    (unended : r.time.end_reason ≡ None) (i : ℕ) (old : OldFlow c name r s i) where
   -- its bytes before
   abbrev before : List ℕ
   before = slot_of (view c s).table i
@@ -140,7 +138,7 @@ module _ (c T : ℕ) (name : FlowKey) (r : FlowRecord) (s index free : List ℕ)
   words_now = words_stored name r flow before long
 
   old_acted : (due : ℕ) (s' : List ℕ) → due ≡ due_of c (view c s).tree i → SlotChanged c i due (stored_slot r before) (view c s) (view c s')
-      → Acted c T s s' index free (set (slots_of (slots s c)) i (some (flow_under name r)))
+      → Acted c T s s' index free (set (slots_of (slots s c)) i (Some (flow_under name r)))
   old_acted due s' same changed =
       let apart = slots_apart s s' c i (stored_slot r before) changed.table old.sits.low in
       let ready : Ready s' c index free =
@@ -153,14 +151,14 @@ module _ (c T : ℕ) (name : FlowKey) (r : FlowRecord) (s index free : List ℕ)
       placed_still T due i before (stored_slot r before)
       (subst (λ (d : ℕ). Placed T d before [] i) (sym same) (busy.names.placed i old.sits.low)) used_before used_now grows in
       subst (λ (o : Option (Flow engine)). Acted c T s s' index free (set (slots_of (slots s c)) i o))
-      (used_flow (stored_slot r before) used_now ∙ ap some (flow_is name r flow unended (stored_slot r before) own_key words_now))
+      (used_flow (stored_slot r before) used_now ∙ ap Some (flow_is name r flow unended (stored_slot r before) own_key words_now))
       (slot_acted c T i due (stored_slot r before) s s' index index free free busy old.sits.low changed placed
       (spare_stored name r flow before long) ready)
 
 -- ## A flow that is new
 
 module _ (c T : ℕ) (name : FlowKey) (bytes : List ℕ) (r : FlowRecord) (s index free : List ℕ) (busy : Busy c T s index free) (flow : SoundFlow name r)
-    (unended : r.time.end_reason ≡ Open.Absent) (new : NewFlow c name bytes s) (room : 0 < free_count free) (i : ℕ) (last : i ≡ last_free free) where
+    (unended : r.time.end_reason ≡ None) (new : NewFlow c name bytes s) (room : 0 < free_count free) (i : ℕ) (last : i ≡ last_free free) where
   -- the bytes of its slot before
   abbrev unused : List ℕ
   unused = slot_of (view c s).table i
@@ -223,13 +221,13 @@ module _ (c T : ℕ) (name : FlowKey) (bytes : List ℕ) (r : FlowRecord) (s ind
 
   new_acted : (s' index' : List ℕ) → Inserted (home (hash_of bytes)) (entry_of (hash_of bytes) i) index index'
       → SlotChanged c i (cond (eqb T 0) (due_of c (view c s).tree i) (due_for (end_of opened) T)) opened (view c s) (view c s')
-      → Acted c T s s' index' (popped free) (set (slots_of (slots s c)) (last_free free) (some (flow_under name r)))
+      → Acted c T s s' index' (popped free) (set (slots_of (slots s c)) (last_free free) (Some (flow_under name r)))
   new_acted s' index' put changed =
       let due = cond (eqb T 0) (due_of c (view c s).tree i) (due_for (end_of opened) T) in
       let apart = slots_apart s s' c i opened changed.table low in
-      subst (λ (x : ℕ). Acted c T s s' index' (popped free) (set (slots_of (slots s c)) x (some (flow_under name r)))) last
+      subst (λ (x : ℕ). Acted c T s s' index' (popped free) (set (slots_of (slots s c)) x (Some (flow_under name r)))) last
       (subst (λ (o : Option (Flow engine)). Acted c T s s' index' (popped free) (set (slots_of (slots s c)) i o))
-      (used_flow opened opened_used ∙ ap some (flow_is name r flow unended opened opened_key opened_words))
+      (used_flow opened opened_used ∙ ap Some (flow_is name r flow unended opened opened_key opened_words))
       (slot_acted c T i due opened s s' index index' free (popped free) busy low changed
       (placed_new T (due_of c (view c s).tree i) i unused opened (busy.names.placed i low) opened_used)
       (spare_stored name r flow (keyed_slot bytes unused) long_keyed ∙ spare_keyed bytes unused short long_unused)
@@ -237,7 +235,7 @@ module _ (c T : ℕ) (name : FlowKey) (bytes : List ℕ) (r : FlowRecord) (s ind
 
 -- ## The steps of keeping it
 
-module _ (c T : ℕ) (found : Found) (name : FlowKey) (bytes : List ℕ) (r : FlowRecord) (s index free : List ℕ)
+module _ (c T : ℕ) (found : Option ℕ) (name : FlowKey) (bytes : List ℕ) (r : FlowRecord) (s index free : List ℕ)
     (asked : KeepAsked c T found name bytes r s index free) where
   pub seat_asked : SeatAsked c found name bytes s index free
   seat_asked = record {
@@ -250,37 +248,37 @@ module _ (c T : ℕ) (found : Found) (name : FlowKey) (bytes : List ℕ) (r : Fl
     };
   }
 
-seated_low : (found : Found) (c T : ℕ) (name : FlowKey) (bytes : List ℕ) (r : FlowRecord) (s index free : List ℕ) → KeepAsked c T found name bytes r s index free
+seated_low : (found : Option ℕ) (c T : ℕ) (name : FlowKey) (bytes : List ℕ) (r : FlowRecord) (s index free : List ℕ) → KeepAsked c T found name bytes r s index free
     → (s1 index1 free1 : List ℕ) (i : ℕ) → Seated found c bytes s s1 index index1 free free1 i → i < c
-seated_low (Found.At j) c T name bytes r s index free asked s1 index1 free1 i h = omega (arith, (asked.old j refl).sits.low, h.0)
-seated_low Found.Nothing c T name bytes r s index free asked s1 index1 free1 i h =
+seated_low (Some j) c T name bytes r s index free asked s1 index1 free1 i h = omega (arith, (asked.old j refl).sits.low, h.0)
+seated_low None c T name bytes r s index free asked s1 index1 free1 i h =
     omega (arith, last_free_low s c index free asked.busy.ready (asked.room refl), h.last)
 
-seated_view : (found : Found) (c : ℕ) (bytes s s1 index index1 free free1 : List ℕ) (i : ℕ) → Seated found c bytes s s1 index index1 free free1 i
+seated_view : (found : Option ℕ) (c : ℕ) (bytes s s1 index index1 free free1 : List ℕ) (i : ℕ) → Seated found c bytes s s1 index index1 free free1 i
     → view c s1 ≡ with_slot i (seated_slot found bytes (slot_of (view c s).table i)) (view c s)
-seated_view (Found.At j) c bytes s s1 index index1 free free1 i h = same_slot c i s s1 h.1.state
-seated_view Found.Nothing c bytes s s1 index index1 free free1 i h = h.state
+seated_view (Some j) c bytes s s1 index index1 free free1 i h = same_slot c i s s1 h.1.state
+seated_view None c bytes s s1 index index1 free free1 i h = h.state
 
-kept_acted : (found : Found) (c T : ℕ) (name : FlowKey) (bytes : List ℕ) (r : FlowRecord) (s index free : List ℕ) → KeepAsked c T found name bytes r s index free
+kept_acted : (found : Option ℕ) (c T : ℕ) (name : FlowKey) (bytes : List ℕ) (r : FlowRecord) (s index free : List ℕ) → KeepAsked c T found name bytes r s index free
     → (s1 index1 free1 : List ℕ) (i : ℕ) → Seated found c bytes s s1 index index1 free free1 i → (now : ℕ) → now ≡ due_of c (view c s).tree i
     → (e : ℕ) → e ≡ end_of (stored_slot r (seated_slot found bytes (slot_of (view c s).table i)))
     → (s3 : List ℕ) → SlotChanged c i (entry_for found T e now) (stored_slot r (seated_slot found bytes (slot_of (view c s).table i))) (view c s) (view c s3)
     → Acted c T s s3 index1 free1 (kept_slots found (last_free free) (flow_under name r) (slots_of (slots s c)))
-kept_acted (Found.At j) c T name bytes r s index free asked s1 index1 free1 i h now same e ends s3 changed =
+kept_acted (Some j) c T name bytes r s index free asked s1 index1 free1 i h now same e ends s3 changed =
     let old : OldFlow c name r s i = subst (OldFlow c name r s) (sym h.0) (asked.old j refl) in
-    subst (λ (x : List ℕ). Acted c T s s3 x free1 (set (slots_of (slots s c)) j (some (flow_under name r)))) (sym h.1.index_is)
-    (subst (λ (x : List ℕ). Acted c T s s3 index x (set (slots_of (slots s c)) j (some (flow_under name r)))) (sym h.1.list)
-    (subst (λ (x : ℕ). Acted c T s s3 index free (set (slots_of (slots s c)) x (some (flow_under name r)))) h.0
+    subst (λ (x : List ℕ). Acted c T s s3 x free1 (set (slots_of (slots s c)) j (Some (flow_under name r)))) (sym h.1.index_is)
+    (subst (λ (x : List ℕ). Acted c T s s3 index x (set (slots_of (slots s c)) j (Some (flow_under name r)))) (sym h.1.list)
+    (subst (λ (x : ℕ). Acted c T s s3 index free (set (slots_of (slots s c)) x (Some (flow_under name r)))) h.0
     (old_acted c T name r s index free asked.busy asked.flow asked.unended i old now s3 same changed)))
-kept_acted Found.Nothing c T name bytes r s index free asked s1 index1 free1 i h now same e ends s3 changed =
+kept_acted None c T name bytes r s index free asked s1 index1 free1 i h now same e ends s3 changed =
     let b = stored_slot r (keyed_slot bytes (slot_of (view c s).table i)) in
     let moved : SlotChanged c i (cond (eqb T 0) (due_of c (view c s).tree i) (due_for (end_of b) T)) b (view c s) (view c s3) =
     subst (λ (x : ℕ). SlotChanged c i (cond (eqb T 0) (due_of c (view c s).tree i) (due_for x T)) b (view c s) (view c s3)) ends
     (subst (λ (x : ℕ). SlotChanged c i (cond (eqb T 0) x (due_for e T)) b (view c s) (view c s3)) same changed) in
-    subst (λ (x : List ℕ). Acted c T s s3 index1 x (set (slots_of (slots s c)) (last_free free) (some (flow_under name r)))) (sym h.list)
+    subst (λ (x : List ℕ). Acted c T s s3 index1 x (set (slots_of (slots s c)) (last_free free) (Some (flow_under name r)))) (sym h.list)
     (new_acted c T name bytes r s index free asked.busy asked.flow asked.unended (asked.new refl) (asked.room refl) i h.last s3 index1 h.put moved)
 
-module _ (c T : ℕ) (found : Found) (name : FlowKey) (bytes : List ℕ) (r : FlowRecord) (s index free : List ℕ)
+module _ (c T : ℕ) (found : Option ℕ) (name : FlowKey) (bytes : List ℕ) (r : FlowRecord) (s index free : List ℕ)
     (asked : KeepAsked c T found name bytes r s index free) (s1 index1 free1 : List ℕ) (i : ℕ) (seated : Seated found c bytes s s1 index index1 free free1 i) where
   pub keep_low : i < c
   keep_low = seated_low found c T name bytes r s index free asked s1 index1 free1 i seated

@@ -1,23 +1,20 @@
 -- A flow leaves its slot, and its record goes to the front of the output. Assumes nothing.
+use Rattle.std.specs.Prelude.{None, Option, Some}
 use Prim.Native.Nat.{ℕ, ◌+◌, ◌*◌, ◌≤◌, ◌<◌}
 use mathlib.Core.Path.{◌≡◌, refl, sym, ap, ◌∙◌, subst}
 use mathlib.Core.Bool.{Bool, true, false, cond}
 use mathlib.Core.List.{List, [], append-nil}
-use mathlib.Core.Option.{Option, none, some}
 use native.Mathlib.Omega.{arith}
 use lib.ListN.{length, get_or, set}
 use Rattle.memory.specs.Bytes.{patch}
 use Rattle.queue.specs.Tree.{never, DueSet}
 use Rattle.slots.specs.Table.{slot, slots, is_used}
-use Rattle.slots.specs.declared.Found.{Found}
 use Rattle.slots.proofs.Laws.{get_d_slots}
 use Rattle.table.specs.View.{View, view, slot_of}
 use Rattle.table.specs.Due.{DuePut}
 use Rattle.key.specs.declared.key.FlowKey.{FlowKey}
 use Rattle.flow.specs.declared.time.EndReason.{EndReason}
 use Rattle.flow.specs.declared.time.EndReason.TheVariants.{Fin}
-use Rattle.flow.specs.declared.time.OptEndReason.{OptEndReason}
-use Rattle.flow.specs.declared.time.OptEndReason.TheVariants.{Absent, Present}
 use Rattle.flow.specs.declared.record.FlowRecord.{FlowRecord}
 use Rattle.wire.specs.declared.record.Flow as Wire
 use Rattle.wire.specs.RecordForm.{record_bytes}
@@ -32,7 +29,7 @@ use Rattle.state.specs.Change.{last_free, used_flow, free_flow, slots_of_at, rea
 use Rattle.hand.specs.Slot.{flow_as}
 use Rattle.hand.specs.Act.{freed_slot, CloseAsked, Closed, OneAsked, Wrote}
 use Rattle.hand.specs.Freed.{slot_freed, spare_freed}
-use Rattle.hand.specs.Acting.{Busy, Acted, at, emptied_at, reason_of}
+use Rattle.hand.specs.Acting.{Busy, Acted, at, emptied_at}
 use Rattle.act.specs.Size.{long_enough}
 use Rattle.act.specs.Keep.{flow_under, Sits, KeepAsked, kept_slots}
 use Rattle.act.specs.Settle.{Filled, EndAsked, LeaveAsked, SettleAsked, settled_slots}
@@ -40,10 +37,10 @@ use Rattle.act.proofs.Changed.{SlotChanged, slot_acted}
 
 -- ## Nothing is done
 
-nothing_acted : (c T : ℕ) (s index free : List ℕ) (found : Found) → Busy c T s index free → found ≡ Found.Nothing
+nothing_acted : (c T : ℕ) (s index free : List ℕ) (found : Option ℕ) → Busy c T s index free → found ≡ None
     → Acted c T s s index free (emptied_at found (slots_of (slots s c)))
 nothing_acted c T s index free found busy e =
-    subst (λ (f : Found). Acted c T s s index free (emptied_at f (slots_of (slots s c)))) (sym e)
+    subst (λ (f : Option ℕ). Acted c T s s index free (emptied_at f (slots_of (slots s c)))) (sym e)
     (record { busy = busy; slots_are = refl; same = record { header = refl; spare_slots = refl; spare_node = refl; rest = refl } })
 
 nothing_filled : (out : List ℕ) → Filled [] out out 0
@@ -87,7 +84,7 @@ module _ (c T i : ℕ) (s index free : List ℕ) (busy : Busy c T s index free) 
     ready = ready_then;
   }
 
-  closed_acted : (s2 index2 free2 : List ℕ) → Closed c i s1 s2 index2 free2 → Acted c T s s2 index2 free2 (set (slots_of (slots s c)) i none)
+  closed_acted : (s2 index2 free2 : List ℕ) → Closed c i s1 s2 index2 free2 → Acted c T s s2 index2 free2 (set (slots_of (slots s c)) i None)
   closed_acted s2 index2 free2 closed =
       let b = slot_of (view c s).table i in
       let given = closed.state in
@@ -107,7 +104,7 @@ module _ (c T i : ℕ) (s index free : List ℕ) (busy : Busy c T s index free) 
 -- ## The flow that step 1 ends
 
 -- a flow's record, finished with Fin
-fin_bytes : (f : Flow engine) → written (ended engine Fin (some f)) ≡ record_bytes (flow_as (finish_or engine Fin f))
+fin_bytes : (f : Flow engine) → written (ended engine Fin (Some f)) ≡ record_bytes (flow_as (finish_or engine Fin f))
 fin_bytes f =
     append-nil (record_bytes (finished_flow f.name Fin f.held))
     ∙ ap (λ (x : EndReason). record_bytes (finished_flow f.name x f.held)) (sym (either (both_fins f.held)))
@@ -117,21 +114,21 @@ fin_bytes f =
     either false = refl
 
 ended_bytes : (c i : ℕ) (s : List ℕ) → Sits c s i
-    → written (ended engine Fin (at (slots_of (slots s c)) (Found.At i))) ≡ record_bytes (flow_as (finish_or engine Fin (flow_in (slot s i))))
+    → written (ended engine Fin (at (slots_of (slots s c)) (Some i))) ≡ record_bytes (flow_as (finish_or engine Fin (flow_in (slot s i))))
 ended_bytes c i s sits =
     ap (λ (o : Option (Flow engine)). written (ended engine Fin o))
     (slots_of_at (slots s c) i ∙ ap slot_flow (get_d_slots s c i sits.low) ∙ used_flow (slot s i) sits.used)
     ∙ fin_bytes (flow_in (slot s i))
 
-module _ (c T : ℕ) (found : Found) (s index free out : List ℕ) (asked : EndAsked c T found s index free out) where
-  pub end_low : (i : ℕ) → found ≡ Found.At i → i < c
+module _ (c T : ℕ) (found : Option ℕ) (s index free out : List ℕ) (asked : EndAsked c T found s index free out) where
+  pub end_low : (i : ℕ) → found ≡ Some i → i < c
   end_low i e = (asked.sits i e).low
 
-  bytes_at : (i : ℕ) → found ≡ Found.At i
+  bytes_at : (i : ℕ) → found ≡ Some i
       → written (ended engine Fin (at (slots_of (slots s c)) found)) ≡ record_bytes (flow_as (finish_or engine Fin (flow_in (slot s i))))
-  bytes_at i e = ap (λ (f : Found). written (ended engine Fin (at (slots_of (slots s c)) f))) e ∙ ended_bytes c i s (asked.sits i e)
+  bytes_at i e = ap (λ (f : Option ℕ). written (ended engine Fin (at (slots_of (slots s c)) f))) e ∙ ended_bytes c i s (asked.sits i e)
 
-  module _ (i : ℕ) (e : found ≡ Found.At i) (s1 : List ℕ) (put : DuePut c i never (view c s) (view c s1)) where
+  module _ (i : ℕ) (e : found ≡ Some i) (s1 : List ℕ) (put : DuePut c i never (view c s) (view c s1)) where
     bytes_then : written (ended engine Fin (at (slots_of (slots s c)) found)) ≡ record_bytes (flow_as (finish_or engine Fin (flow_in (slot s1 i))))
     bytes_then =
         bytes_at i e
@@ -151,7 +148,7 @@ module _ (c T : ℕ) (found : Found) (s index free out : List ℕ) (asked : EndA
 
     pub end_acted : (s2 index2 free2 : List ℕ) → Closed c i s1 s2 index2 free2 → Acted c T s s2 index2 free2 (emptied_at found (slots_of (slots s c)))
     end_acted s2 index2 free2 closed =
-        subst (λ (f : Found). Acted c T s s2 index2 free2 (emptied_at f (slots_of (slots s c)))) (sym e)
+        subst (λ (f : Option ℕ). Acted c T s s2 index2 free2 (emptied_at f (slots_of (slots s c)))) (sym e)
         (closed_acted c T i s index free asked.busy (asked.sits i e) s1 put s2 index2 free2 closed)
 
     pub end_filled : (out' : List ℕ) (r : ℕ) → Wrote (flow_as (finish_or engine Fin (flow_in (slot s1 i)))) out out' r
@@ -159,36 +156,36 @@ module _ (c T : ℕ) (found : Found) (s index free out : List ℕ) (asked : EndA
     end_filled out' r wrote =
         subst (λ (bs : List ℕ). Filled bs out out' r) (sym bytes_then) (record { output = wrote.output; bytes = wrote.bytes })
 
-  pub none_acted : found ≡ Found.Nothing → Acted c T s s index free (emptied_at found (slots_of (slots s c)))
+  pub none_acted : found ≡ None → Acted c T s s index free (emptied_at found (slots_of (slots s c)))
   none_acted e = nothing_acted c T s index free found asked.busy e
 
-  pub none_filled : found ≡ Found.Nothing → Filled (written (ended engine Fin (at (slots_of (slots s c)) found))) out out 0
+  pub none_filled : found ≡ None → Filled (written (ended engine Fin (at (slots_of (slots s c)) found))) out out 0
   none_filled e =
-      subst (λ (f : Found). Filled (written (ended engine Fin (at (slots_of (slots s c)) f))) out out 0) (sym e) (nothing_filled out)
+      subst (λ (f : Option ℕ). Filled (written (ended engine Fin (at (slots_of (slots s c)) f))) out out 0) (sym e) (nothing_filled out)
 
 -- ## The taker's flow leaves
 
-module _ (c T : ℕ) (found : Found) (name : FlowKey) (s index free : List ℕ) (asked : LeaveAsked c T found name s index free) where
-  pub leave_low : (i : ℕ) → found ≡ Found.At i → i < c
+module _ (c T : ℕ) (found : Option ℕ) (name : FlowKey) (s index free : List ℕ) (asked : LeaveAsked c T found name s index free) where
+  pub leave_low : (i : ℕ) → found ≡ Some i → i < c
   leave_low i e = (asked.sits i e).low
 
-  module _ (i : ℕ) (e : found ≡ Found.At i) (s1 : List ℕ) (put : DuePut c i never (view c s) (view c s1)) where
+  module _ (i : ℕ) (e : found ≡ Some i) (s1 : List ℕ) (put : DuePut c i never (view c s) (view c s1)) where
     pub leave_asked : CloseAsked c i name s1 index free
     leave_asked = close_asked c T i s index free asked.busy (asked.sits i e) s1 put name (asked.own i e)
 
     pub leave_acted : (s2 index2 free2 : List ℕ) → Closed c i s1 s2 index2 free2 → Acted c T s s2 index2 free2 (emptied_at found (slots_of (slots s c)))
     leave_acted s2 index2 free2 closed =
-        subst (λ (f : Found). Acted c T s s2 index2 free2 (emptied_at f (slots_of (slots s c)))) (sym e)
+        subst (λ (f : Option ℕ). Acted c T s s2 index2 free2 (emptied_at f (slots_of (slots s c)))) (sym e)
         (closed_acted c T i s index free asked.busy (asked.sits i e) s1 put s2 index2 free2 closed)
 
-  pub stay_acted : found ≡ Found.Nothing → Acted c T s s index free (emptied_at found (slots_of (slots s c)))
+  pub stay_acted : found ≡ None → Acted c T s s index free (emptied_at found (slots_of (slots s c)))
   stay_acted e = nothing_acted c T s index free found asked.busy e
 
 -- ## Steps 3 and 4
 
-module _ (c T : ℕ) (found : Found) (name : FlowKey) (bytes : List ℕ) (r : FlowRecord) (reason : OptEndReason) (s index free out : List ℕ)
+module _ (c T : ℕ) (found : Option ℕ) (name : FlowKey) (bytes : List ℕ) (r : FlowRecord) (reason : Option EndReason) (s index free out : List ℕ)
     (asked : SettleAsked c T found name bytes r reason s index free out) where
-  module _ (e : reason ≡ Absent) where
+  module _ (e : reason ≡ None) where
     pub keep_asked : KeepAsked c T found name bytes r s index free
     keep_asked = record {
       busy = asked.busy;
@@ -202,29 +199,29 @@ module _ (c T : ℕ) (found : Found) (name : FlowKey) (bytes : List ℕ) (r : Fl
     pub settled_kept : (s' index' free' : List ℕ) → Acted c T s s' index' free' (kept_slots found (last_free free) (flow_under name r) (slots_of (slots s c)))
         → Acted c T s s' index' free' (settled_slots found reason (last_free free) name r (slots_of (slots s c)))
     settled_kept s' index' free' acted =
-        subst (λ (o : OptEndReason). Acted c T s s' index' free' (settled_slots found o (last_free free) name r (slots_of (slots s c)))) (sym e) acted
+        subst (λ (o : Option EndReason). Acted c T s s' index' free' (settled_slots found o (last_free free) name r (slots_of (slots s c)))) (sym e) acted
 
-    pub kept_filled : Filled (written (ended_for engine (reason_of reason) (flow_under name r))) out out 0
+    pub kept_filled : Filled (written (ended_for engine reason (flow_under name r))) out out 0
     kept_filled =
-        subst (λ (o : OptEndReason). Filled (written (ended_for engine (reason_of o) (flow_under name r))) out out 0) (sym e) (nothing_filled out)
+        subst (λ (o : Option EndReason). Filled (written (ended_for engine o (flow_under name r))) out out 0) (sym e) (nothing_filled out)
 
   pub leaves_asked : LeaveAsked c T found name s index free
   leaves_asked = record { busy = asked.busy; sits = λ i e. (asked.old i e).sits; own = λ i e. (asked.old i e).own }
 
-  module _ (why : EndReason) (e : reason ≡ Present why) where
-    last_bytes : written (ended_for engine (reason_of reason) (flow_under name r)) ≡ record_form name why r
-    last_bytes = ap (λ (o : OptEndReason). written (ended_for engine (reason_of o) (flow_under name r))) e ∙ append-nil (record_form name why r)
+  module _ (why : EndReason) (e : reason ≡ Some why) where
+    last_bytes : written (ended_for engine reason (flow_under name r)) ≡ record_form name why r
+    last_bytes = ap (λ (o : Option EndReason). written (ended_for engine o (flow_under name r))) e ∙ append-nil (record_form name why r)
 
     pub settled_left : (s' index' free' : List ℕ) → Acted c T s s' index' free' (emptied_at found (slots_of (slots s c)))
         → Acted c T s s' index' free' (settled_slots found reason (last_free free) name r (slots_of (slots s c)))
     settled_left s' index' free' acted =
-        subst (λ (o : OptEndReason). Acted c T s s' index' free' (settled_slots found o (last_free free) name r (slots_of (slots s c)))) (sym e) acted
+        subst (λ (o : Option EndReason). Acted c T s s' index' free' (settled_slots found o (last_free free) name r (slots_of (slots s c)))) (sym e) acted
 
     module _ (f : Wire.Flow) (is : f ≡ finished_flow name why r) where
       pub flow_fits : length (record_bytes f) ≤ length out
       flow_fits = omega (arith, ap (λ (g : Wire.Flow). length (record_bytes g)) is, ap length last_bytes, asked.room)
 
       pub left_filled : (out' : List ℕ) (n : ℕ) → Wrote f out out' n
-          → Filled (written (ended_for engine (reason_of reason) (flow_under name r))) out out' n
+          → Filled (written (ended_for engine reason (flow_under name r))) out out' n
       left_filled out' n wrote =
           subst (λ (bs : List ℕ). Filled bs out out' n) (ap record_bytes is ∙ sym last_bytes) (record { output = wrote.output; bytes = wrote.bytes })

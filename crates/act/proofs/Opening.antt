@@ -1,4 +1,5 @@
 -- A free slot is taken for a new flow. Assumes nothing.
+use Rattle.std.specs.Prelude.{None, Option, Some}
 use Prim.Native.Nat.{ℕ, ◌≤◌, ◌<◌}
 use mathlib.Core.Path.{◌≡◌, refl, sym, ap, ◌∙◌, subst}
 use mathlib.Core.List.{List, ◌∷◌}
@@ -7,7 +8,6 @@ use borrow.Author.Tests.{eq-eqb, ne_eqb}
 use lib.ListN.{length}
 use Rattle.memory.specs.Bytes.{patch}
 use Rattle.slots.specs.Table.{slot}
-use Rattle.slots.specs.declared.Found.{Found}
 use Rattle.table.specs.View.{view, slot_of, with_slot}
 use Rattle.table.specs.Due.{end_of, due_of, due_for, DuePut}
 use Rattle.index.specs.Hash.{hash_of, hash_of_lem}
@@ -49,35 +49,35 @@ module _ (c : ℕ) (name : FlowKey) (bytes s index free : List ℕ) (asked : Ope
 
 -- ## The flow's slot
 
-pub seat_opens : (c : ℕ) (found : Found) (name : FlowKey) (bytes s index free : List ℕ) → SeatAsked c found name bytes s index free → found ≡ Found.Nothing
+pub seat_opens : (c : ℕ) (found : Option ℕ) (name : FlowKey) (bytes s index free : List ℕ) → SeatAsked c found name bytes s index free → found ≡ None
     → OpenAsked c name bytes s index free
 seat_opens c found name bytes s index free asked e = asked.opens e
 
-module _ (found : Found) (c : ℕ) (bytes s index free : List ℕ) where
-  pub seat_found : (i : ℕ) → found ≡ Found.At i → Seated found c bytes s s index index free free i
+module _ (found : Option ℕ) (c : ℕ) (bytes s index free : List ℕ) where
+  pub seat_found : (i : ℕ) → found ≡ Some i → Seated found c bytes s s index index free free i
   seat_found i e =
-      subst (λ (f : Found). Seated f c bytes s s index index free free i) (sym e)
+      subst (λ (f : Option ℕ). Seated f c bytes s s index index free free i) (sym e)
       (refl, record { state = refl; index_is = refl; list = refl })
 
-  pub seat_opened : (s' index' free' : List ℕ) (i : ℕ) → found ≡ Found.Nothing → Opened c bytes s s' index index' free free' i
+  pub seat_opened : (s' index' free' : List ℕ) (i : ℕ) → found ≡ None → Opened c bytes s s' index index' free free' i
       → Seated found c bytes s s' index index' free free' i
-  seat_opened s' index' free' i e opened = subst (λ (f : Found). Seated f c bytes s s' index index' free free' i) (sym e) opened
+  seat_opened s' index' free' i e opened = subst (λ (f : Option ℕ). Seated f c bytes s s' index index' free free' i) (sym e) opened
 
 -- ## Its entry in the queue
 
-module _ (c T i : ℕ) (found : Found) (s : List ℕ) (asked : EntryAsked c i s) where
+module _ (c T i : ℕ) (found : Option ℕ) (s : List ℕ) (asked : EntryAsked c i s) where
   -- the entry that slot i has, put again
   same_entry : DuePut c i (due_of c (view c s).tree i) (view c s) (view c s)
   same_entry = record { same = refl; queue = record { sound = asked.sound; here = refl; others = λ j low n. refl; spare = refl } }
 
-  pub entry_kept : (j : ℕ) → found ≡ Found.At j → Entered c T i found s s
-  entry_kept j e = subst (λ (f : Found). Entered c T i f s s) (sym e) same_entry
+  pub entry_kept : (j : ℕ) → found ≡ Some j → Entered c T i found s s
+  entry_kept j e = subst (λ (f : Option ℕ). Entered c T i f s s) (sym e) same_entry
 
-  pub entry_none : found ≡ Found.Nothing → T ≡ 0 → Entered c T i found s s
-  entry_none e z = subst (λ (f : Found). Entered c T i f s s) (sym e) (rw (eq-eqb T 0 z) same_entry)
+  pub entry_none : found ≡ None → T ≡ 0 → Entered c T i found s s
+  entry_none e z = subst (λ (f : Option ℕ). Entered c T i f s s) (sym e) (rw (eq-eqb T 0 z) same_entry)
 
-  pub entry_made : found ≡ Found.Nothing → (T ≡ 0 → ⊥) → (due : ℕ) → due ≡ due_for (end_of (slot s i)) T → (s' : List ℕ)
+  pub entry_made : found ≡ None → (T ≡ 0 → ⊥) → (due : ℕ) → due ≡ due_for (end_of (slot s i)) T → (s' : List ℕ)
       → DuePut c i due (view c s) (view c s') → Entered c T i found s s'
   entry_made e n due is s' put =
-      subst (λ (f : Found). Entered c T i f s s') (sym e)
+      subst (λ (f : Option ℕ). Entered c T i f s s') (sym e)
       (rw (ne_eqb T 0 n) (subst (λ (d : ℕ). DuePut c i d (view c s) (view c s')) is put))

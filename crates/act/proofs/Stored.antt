@@ -1,4 +1,5 @@
 -- What a slot says once a record is stored in it. Assumes nothing.
+use Rattle.std.specs.Prelude.{None}
 use Prim.Native.Nat.{ℕ, ◌≤◌}
 use mathlib.Core.Path.{◌≡◌, sym, ap, ◌∙◌, subst}
 use mathlib.Core.Bool.{true}
@@ -18,7 +19,6 @@ use Rattle.index.specs.Hash.{key_from, key_from_lem}
 use Rattle.key.specs.KeyTheorems.{KeyInRange, key_at_most}
 use Rattle.key.specs.declared.key.FlowKey.{FlowKey}
 use Rattle.flow.specs.Sound.{sound_aside}
-use Rattle.flow.specs.declared.time.OptEndReason.TheVariants.{Absent}
 use Rattle.flow.specs.declared.record.FlowRecord.{FlowRecord}
 use Rattle.rules.specs.Engine.{key_bytes}
 use Rattle.rules.specs.EngineLaws.{SoundFlow}
@@ -28,7 +28,7 @@ use Rattle.act.specs.Keep.{flow_under}
 
 -- ## The slot of a flow's key bytes and words
 
-module _ (k : FlowKey) (r : FlowRecord) (flow : SoundFlow k r) (unended : r.time.end_reason ≡ Absent) (b : List ℕ)
+module _ (k : FlowKey) (r : FlowRecord) (flow : SoundFlow k r) (unended : r.time.end_reason ≡ None) (b : List ℕ)
     (key : key_of b ≡ key_bytes k) (words : words_in b ≡ words_of r) where
   name_is : key_in b ≡ k
   unfolding key_in

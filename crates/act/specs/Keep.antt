@@ -1,10 +1,8 @@
 -- What is asked and promised where the flow that took a packet stays open. Assumes nothing.
-use Rattle.std.specs.Prelude.{ℕ, ◌+◌, ◌*◌, ◌≤◌, ◌<◌, ◌≡◌, true, false, cond, List, ◌∷◌, eqb, length, set}
-use Rattle.std.proofs.Math.Option.{none, some}
+use Rattle.std.specs.Prelude.{ℕ, ◌+◌, ◌*◌, ◌≤◌, ◌<◌, ◌≡◌, true, false, cond, List, ◌∷◌, eqb, length, set, None, Option, Some}
 use Rattle.memory.specs.Bytes.{patch}
 use Rattle.queue.specs.Tree.{Sound}
 use Rattle.slots.specs.Table.{slot, slots, is_used}
-use Rattle.slots.specs.declared.Found.{Found}
 use Rattle.table.specs.View.{view, slot_of, with_slot}
 use Rattle.table.specs.Due.{end_of, due_of, due_for, DuePut}
 use Rattle.index.specs.Hash.{hash_of}
@@ -12,7 +10,6 @@ use Rattle.index.specs.Index.{home, entry_of, Inserted}
 use Rattle.key.specs.Key.{reversed_key}
 use Rattle.key.specs.KeyTheorems.{KeyInRange}
 use Rattle.key.specs.declared.key.FlowKey.{FlowKey}
-use Rattle.flow.specs.declared.time.OptEndReason.TheVariants.{Absent}
 use Rattle.flow.specs.declared.record.FlowRecord.{FlowRecord}
 use Rattle.rules.specs.Rules.{Flow, under}
 use Rattle.rules.specs.Engine.{engine, key_bytes, is_association}
@@ -44,23 +41,23 @@ pub record OldFlow (c : ℕ) (name : FlowKey) (r : FlowRecord) (s : List ℕ) (i
 
 -- no flow is under this key, nor under the reversed key unless it is a security association's; and these are its bytes
 pub record NewFlow (c : ℕ) (name : FlowKey) (bytes s : List ℕ) : Type 0 where
-  pub alone : under engine (key_bytes name) (meaning engine (slots_of (slots s c))) ≡ none
-  pub unturned : is_association name ≡ false → under engine (key_bytes (reversed_key name)) (meaning engine (slots_of (slots s c))) ≡ none
+  pub alone : under engine (key_bytes name) (meaning engine (slots_of (slots s c))) ≡ None
+  pub unturned : is_association name ≡ false → under engine (key_bytes (reversed_key name)) (meaning engine (slots_of (slots s c))) ≡ None
   pub key : bytes ≡ key_bytes name
 
 -- a flow in its slot, or a new one and a free slot
-pub record KeepAsked (c T : ℕ) (found : Found) (name : FlowKey) (bytes : List ℕ) (r : FlowRecord) (s index free : List ℕ) : Type 0 where
+pub record KeepAsked (c T : ℕ) (found : Option ℕ) (name : FlowKey) (bytes : List ℕ) (r : FlowRecord) (s index free : List ℕ) : Type 0 where
   pub busy : Busy c T s index free
   pub flow : SoundFlow name r
-  pub unended : r.time.end_reason ≡ Absent
-  pub old : (i : ℕ) → found ≡ Found.At i → OldFlow c name r s i
-  pub new : found ≡ Found.Nothing → NewFlow c name bytes s
-  pub room : found ≡ Found.Nothing → 0 < free_count free
+  pub unended : r.time.end_reason ≡ None
+  pub old : (i : ℕ) → found ≡ Some i → OldFlow c name r s i
+  pub new : found ≡ None → NewFlow c name bytes s
+  pub room : found ≡ None → 0 < free_count free
 
 -- the slots with the flow in the slot that was found, or else in the last of the free ones
-abbrev pub kept_slots : Found → ℕ → Flow engine → Slots engine → Slots engine
-kept_slots (Found.At i) last f l = set l i (some f)
-kept_slots Found.Nothing last f l = set l last (some f)
+abbrev pub kept_slots : Option ℕ → ℕ → Flow engine → Slots engine → Slots engine
+kept_slots (Some i) last f l = set l i (Some f)
+kept_slots None last f l = set l last (Some f)
 
 -- ## A free slot is taken
 
@@ -82,8 +79,8 @@ pub record Opened (c : ℕ) (bytes s s' index index' free free' : List ℕ) (r :
 -- ## The flow's slot
 
 -- a slot that was found, or a key with its bytes and a free slot
-pub record SeatAsked (c : ℕ) (found : Found) (name : FlowKey) (bytes s index free : List ℕ) : Type 0 where
-  pub opens : found ≡ Found.Nothing → OpenAsked c name bytes s index free
+pub record SeatAsked (c : ℕ) (found : Option ℕ) (name : FlowKey) (bytes s index free : List ℕ) : Type 0 where
+  pub opens : found ≡ None → OpenAsked c name bytes s index free
 
 -- nothing was done
 pub record Unmoved (s s' index index' free free' : List ℕ) : Type 0 where
@@ -92,9 +89,9 @@ pub record Unmoved (s s' index index' free free' : List ℕ) : Type 0 where
   pub list : free' ≡ free
 
 -- the slot that was found, with nothing done; or a free slot that was taken
-abbrev pub Seated : Found → (c : ℕ) (bytes s s' index index' free free' : List ℕ) (r : ℕ) → Type 0
-Seated (Found.At i) c bytes s s' index index' free free' r = (r ≡ i) × Unmoved s s' index index' free free'
-Seated Found.Nothing c bytes s s' index index' free free' r = Opened c bytes s s' index index' free free' r
+abbrev pub Seated : Option ℕ → (c : ℕ) (bytes s s' index index' free free' : List ℕ) (r : ℕ) → Type 0
+Seated (Some i) c bytes s s' index index' free free' r = (r ≡ i) × Unmoved s s' index index' free free'
+Seated None c bytes s s' index index' free free' r = Opened c bytes s s' index index' free free' r
 
 -- ## Its entry in the queue
 
@@ -105,10 +102,10 @@ pub record EntryAsked (c i : ℕ) (s : List ℕ) : Type 0 where
   pub sound : Sound (view c s).tree c
 
 -- the entry of a flow that ends at e: the one that it has, or where it is new its due time, or none where the timeout is 0
-abbrev pub entry_for : Found → (T e now : ℕ) → ℕ
-entry_for (Found.At i) T e now = now
-entry_for Found.Nothing T e now = cond (eqb T 0) now (due_for e T)
+abbrev pub entry_for : Option ℕ → (T e now : ℕ) → ℕ
+entry_for (Some i) T e now = now
+entry_for None T e now = cond (eqb T 0) now (due_for e T)
 
 -- slot i's flow has its entry, and nothing else has changed
-abbrev pub Entered : (c T i : ℕ) (found : Found) (s s' : List ℕ) → Type 0
+abbrev pub Entered : (c T i : ℕ) (found : Option ℕ) (s s' : List ℕ) → Type 0
 Entered c T i found s s' = DuePut c i (entry_for found T (end_of (slot s i)) (due_of c (view c s).tree i)) (view c s) (view c s')

@@ -1,4 +1,4 @@
-// The flow that took a packet stays open: its record goes into its slot, or into a free one where the flow is new.
+//! The flow that took a packet stays open: its record goes into its slot, or into a free one where the flow is new.
 ghost use Rattle.slots.specs.Table.{slots};
 ghost use Rattle.state.specs.State.{slots_of};
 ghost use Rattle.state.specs.Change.{last_free};
@@ -8,7 +8,6 @@ ghost use Rattle.act.specs.Keep.{flow_under, KeepAsked, kept_slots, OpenAsked, O
 use flow::record::FlowRecord;
 use flow::time::Nanos;
 use key::key::FlowKey;
-use slots::Found;
 use words::words::words_of;
 
 // Takes a free slot for a new flow: its key, and its place in the index.
@@ -30,10 +29,11 @@ fn open_slot(
 }
 
 // The flow's slot: the one that was found, or a free one.
+#[tactic(auto, using(crate::proofs::Opening::seat_opens, crate::proofs::Opening::seat_found, crate::proofs::Opening::seat_opened))]
 fn seat(
     state: &mut [u8],
     capacity: usize,
-    slot: Found,
+    slot: Option<usize>,
     name: FlowKey,
     bytes: &[u8],
     index: &mut [u32],
@@ -43,19 +43,20 @@ fn seat(
     ensures { Seated slot capacity bytes.now state.old state.new index.old index.new free.old free.new result }
 {
     match slot {
-        Found::At(i) => i,
-        Found::Nothing => open_slot(state, capacity, name, bytes, index, free),
+        Some(i) => i,
+        None => open_slot(state, capacity, name, bytes, index, free),
     }
 }
 
 // The queue names a new flow, which sits in slot i. With timeout 0 it names none.
-fn enter(state: &mut [u8], capacity: usize, timeout: Nanos, slot: Found, i: usize)
+#[tactic(auto, using(crate::proofs::Opening::entry_none, crate::proofs::Opening::entry_kept, crate::proofs::Opening::entry_made))]
+fn enter(state: &mut [u8], capacity: usize, timeout: Nanos, slot: Option<usize>, i: usize)
     requires { EntryAsked capacity i state.old }
     ensures { Entered capacity timeout.0 i slot state.old state.new }
 {
     match slot {
-        Found::At(_) => (),
-        Found::Nothing => {
+        Some(_) => (),
+        None => {
             if timeout.0 == 0 {
                 return;
             }
@@ -70,7 +71,7 @@ pub(crate) fn keep(
     state: &mut [u8],
     capacity: usize,
     timeout: Nanos,
-    slot: Found,
+    slot: Option<usize>,
     name: FlowKey,
     bytes: &[u8],
     record: FlowRecord,

@@ -1,10 +1,12 @@
 // The engine's calls on memory that the caller lends. Each answers the refusal's number, 0 for none, on any bytes whatever.
 ghost use Rattle.std.specs.Prelude.{◌≡◌};
-ghost use Rattle.braidpuddle.specs.Calls.{state_bytes, OpenedBy, FedBy, SweptBy, DrainedBy, CountedFlows};
+ghost use Rattle.forms.specs.Refusals.{stop_number};
+ghost use Rattle.braidpuddle.specs.Calls.{state_bytes, OpenedBy, FedBy, SweptBy, DrainedBy, CountedFlows, numbers_of};
 
 use flow::time::{Millis, Nanos};
+use forms::refusal::Refusal;
 use state::check::check;
-use state::opening::Opening;
+use sweeps::sweep::HandedOut;
 use wire::record::resolution_from;
 
 // How many bytes of memory a state of this capacity takes; 0 where opening refuses the capacity.
@@ -17,6 +19,26 @@ pub fn braidpuddle_state_bytes(capacity: u64) -> u64
     256 + 640 * capacity
 }
 
+// The number of what stopped a batch; 0 where nothing did.
+fn number_of(refusal: Option<Refusal>) -> u64
+    ensures { result ≡ stop_number refusal }
+{
+    match refusal {
+        None => 0,
+        Some(refusal) => refusal.number() as u64,
+    }
+}
+
+// The six numbers of a sweep or a drain.
+fn numbers_of(handed: Result<HandedOut, Refusal>) -> [u64; 6]
+    ensures { result ≡ numbers_of handed }
+{
+    match handed {
+        Ok(handed) => [0, 0, 0, 0, handed.records as u64, handed.bytes as u64],
+        Err(refusal) => [refusal.number() as u64, 0, 0, 0, 0, 0],
+    }
+}
+
 // Opens a state. Resolution 0 is microseconds, any other number finer. Refusals: 1 Capacity, 2 Memory.
 pub fn braidpuddle_open(state: &mut [u8], capacity: u64, timeout_ms: u64, resolution: u64) -> u64
     ensures { OpenedBy state.old capacity timeout_ms resolution result state.new }
@@ -27,9 +49,8 @@ pub fn braidpuddle_open(state: &mut [u8], capacity: u64, timeout_ms: u64, resolu
         Millis(timeout_ms),
         resolution_from(resolution),
     ) {
-        Opening::Opened => 0,
-        Opening::Capacity => 1,
-        Opening::Memory => 2,
+        Ok(()) => 0,
+        Err(refusal) => refusal.number() as u64,
     }
 }
 
@@ -44,7 +65,7 @@ pub fn braidpuddle_feed(
     ensures { FedBy state.old batch.now out.old result answer.new state.new out.new }
 {
     let fed = engine::feed(state, batch, out);
-    let refusal = fed.refusal as u64;
+    let refusal = number_of(fed.refusal);
     *answer = [
         refusal,
         fed.packets as u64,
@@ -65,27 +86,16 @@ pub fn braidpuddle_sweep(
 ) -> u64
     ensures { SweptBy time_ns state.old out.old result answer.new state.new out.new }
 {
-    let swept = engine::sweep(state, Nanos(time_ns), out);
-    let refusal = swept.refusal as u64;
-    *answer = [refusal, 0, 0, 0, swept.records as u64, swept.bytes as u64];
-    refusal
+    *answer = numbers_of(engine::sweep(state, Nanos(time_ns), out));
+    answer[0]
 }
 
 // Drains. Answer and refusals are a sweep's.
 pub fn braidpuddle_drain(state: &mut [u8], out: &mut [u8], answer: &mut [u64; 6]) -> u64
     ensures { DrainedBy state.old out.old result answer.new state.new out.new }
 {
-    let drained = engine::drain(state, out);
-    let refusal = drained.refusal as u64;
-    *answer = [
-        refusal,
-        0,
-        0,
-        0,
-        drained.records as u64,
-        drained.bytes as u64,
-    ];
-    refusal
+    *answer = numbers_of(engine::drain(state, out));
+    answer[0]
 }
 
 // How many flows are open; 2^64 - 1 where the state is damaged.

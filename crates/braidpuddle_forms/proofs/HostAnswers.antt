@@ -1,4 +1,7 @@
 -- What the functions on a host's own record answer, one law for each way out. Assumes nothing.
+use Rattle.std.specs.Prelude.{Result, Ok, Err}
+use Rattle.forms.specs.Refusals.{refusal_number}
+use Rattle.forms.specs.declared.refusal.Refusal.{Refusal}
 use Prim.Native.Nat.{ℕ, zero, suc, ◌^◌, ◌<◌}
 use mathlib.Core.Path.{◌≡◌, refl, sym, ◌∙◌}
 use mathlib.Core.Bool.{Bool, true, false, ◌&&◌}
@@ -13,13 +16,10 @@ use Rattle.flow.specs.declared.record.Direction.{Direction}
 use Rattle.flow.specs.declared.record.FlowRecord.{FlowRecord}
 use Rattle.flow.specs.declared.record.PacketFacts.{PacketFacts}
 use Rattle.flow.specs.declared.time.TimeResolution.{TimeResolution}
-use Rattle.flow.specs.declared.host.Begun.{Begun}
-use Rattle.flow.specs.declared.host.Counted.{Counted}
-use Rattle.flow.specs.declared.host.Refusal.{Refusal}
 use Rattle.wire.specs.RecordForm.{resolution_from}
 use Rattle.words.specs.Words.{words_of, record_of, words_fit}
 use Rattle.braidpuddle_forms.specs.Facts.{facts_fit, facts_from}
-use Rattle.braidpuddle_forms.specs.Host.{begun_as, begun_words, direction_named, counted_as, counted_words}
+use Rattle.braidpuddle_forms.specs.Host.{begun_words, direction_named, counted_by, counted_words}
 
 -- any number but 0 names the reverse direction
 pub reverse_named : (n : ℕ) → (n ≡ 0 → ⊥) → Direction.Reverse ≡ direction_named n
@@ -36,15 +36,15 @@ module _ (ns : List ℕ) (protocol : ℕ) (fit : Bool) (judged : fit ≡ facts_f
   begin_unfit unfit = rw (← judged, unfit)
 
   module _ (fits : fit && leb protocol 255 ≡ true) (f : PacketFacts) (made : f ≡ facts_from ns) (finest : TimeResolution)
-      (named : finest ≡ resolution_from resolution) (b : Begun) (says : b ≡ begun_of finest protocol f) where
-    begin_so : (x : Begun) → b ≡ x → begun_as x before ≡ begun_words ns protocol resolution before
+      (named : finest ≡ resolution_from resolution) (b : Result FlowRecord Refusal) (says : b ≡ begun_of finest protocol f) where
+    begin_so : (x : Result FlowRecord Refusal) → b ≡ x → counted_by x before ≡ begun_words ns protocol resolution before
     begin_so x is = rw (← judged, fits, ← made, ← named, ← says, is)
 
-    pub begin_record : (r : FlowRecord) (ws : List ℕ) → b ≡ Begun.Record r → ws ≡ words_of r → (0, ws) ≡ begun_words ns protocol resolution before
-    begin_record r ws is words = rw words (begin_so (Begun.Record r) is)
+    pub begin_record : (r : FlowRecord) (ws : List ℕ) → b ≡ Ok r → ws ≡ words_of r → (0, ws) ≡ begun_words ns protocol resolution before
+    begin_record r ws is words = rw words (begin_so (Ok r) is)
 
-    pub begin_packet : b ≡ Begun.Packet → (4, before) ≡ begun_words ns protocol resolution before
-    begin_packet is = begin_so Begun.Packet is
+    pub begin_refused : (why : Refusal) → b ≡ Err why → (refusal_number why, before) ≡ begun_words ns protocol resolution before
+    begin_refused why is = begin_so (Err why) is
 
 pub protocol_fits : (fit : Bool) (protocol : ℕ) → fit && leb protocol 255 ≡ true → protocol < 2 ^ 8
 protocol_fits fit protocol fits = omega (arith, leb-true protocol 255 (both fit (leb protocol 255) fits).1)
@@ -68,18 +68,12 @@ module _ (ws ns : List ℕ) (direction : ℕ) (fit : Bool) (judged : fit ≡ wor
       count_damaged is = rw (← judged, fits, ← tested, out, ← stood, ← weighed, is)
 
     module _ (in_range : known ≡ true) (f : PacketFacts) (made : f ≡ facts_from ns) (d : Direction) (named : d ≡ direction_named direction)
-        (c : Counted) (says : c ≡ observed_of before d f) where
-      count_so : (x : Refusal) → c.refusal ≡ x → counted_as x c.flow ws ≡ counted_words ws direction ns
+        (c : Result FlowRecord Refusal) (says : c ≡ observed_of before d f) where
+      count_so : (x : Result FlowRecord Refusal) → c ≡ x → counted_by x ws ≡ counted_words ws direction ns
       count_so x is = rw (← judged, fits, ← tested, in_range, ← stood, ← made, ← named, ← says, is)
 
-      pub counted : (after : List ℕ) → c.refusal ≡ Refusal.None → after ≡ words_of c.flow → (0, after) ≡ counted_words ws direction ns
-      counted after is words = rw words (count_so Refusal.None is)
+      pub counted : (after : FlowRecord) (words : List ℕ) → c ≡ Ok after → words ≡ words_of after → (0, words) ≡ counted_words ws direction ns
+      counted after words is made-words = rw made-words (count_so (Ok after) is)
 
-      pub refused_damaged : c.refusal ≡ Refusal.Damaged → (3, ws) ≡ counted_words ws direction ns
-      refused_damaged is = count_so Refusal.Damaged is
-
-      pub refused_packet : c.refusal ≡ Refusal.Packet → (4, ws) ≡ counted_words ws direction ns
-      refused_packet is = count_so Refusal.Packet is
-
-      pub refused_spent : c.refusal ≡ Refusal.Spent → (6, ws) ≡ counted_words ws direction ns
-      refused_spent is = count_so Refusal.Spent is
+      pub count_refused : (why : Refusal) → c ≡ Err why → (refusal_number why, ws) ≡ counted_words ws direction ns
+      count_refused why is = count_so (Err why) is

@@ -1,3 +1,4 @@
+pub mod Reported
 pub mod KeyAnswers
 pub mod FormAnswers
 pub mod HostAnswers

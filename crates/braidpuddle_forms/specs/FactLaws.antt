@@ -1,8 +1,6 @@
 -- What the test of a packet's numbers says of them, and what the code answers. Assumes nothing.
-use Rattle.std.specs.Prelude.{ℕ, ◌^◌, ◌≤◌, ◌<◌, ◌≡◌, Bool, true, List, get_or}
+use Rattle.std.specs.Prelude.{ℕ, ◌^◌, ◌≤◌, ◌<◌, ◌≡◌, Bool, true, List, get_or, Option}
 use Rattle.std.proofs.Common.{sym, ◌∙◌, arith, leb-true, ltb-true}
-use Rattle.forms.specs.declared.optional.OptU8.{OptU8}
-use Rattle.forms.specs.declared.optional.OptU16.{OptU16}
 use Rattle.flow.specs.SoundLaws.{both}
 use Rattle.words.specs.Fields.{opt8_at, opt16_at}
 use Rattle.braidpuddle_forms.specs.Facts.{facts_fit, facts_from}
@@ -62,7 +60,7 @@ pub ecn_fits : (ns : List ℕ) → facts_fit ns ≡ true → get_or ns 7 0 ≤ 2
 ecn_fits ns e = (fit_facts ns e).ecn
 
 -- a packet of its fields
-pub facts_made : (ns : List ℕ) {ttl dscp ecn : OptU8} {flags icmp : OptU16}
+pub facts_made : (ns : List ℕ) {ttl dscp ecn : Option ℕ} {flags icmp : Option ℕ}
     → ttl ≡ opt8_at (get_or ns 3 0) → flags ≡ opt16_at (get_or ns 4 0) → icmp ≡ opt16_at (get_or ns 5 0)
     → dscp ≡ opt8_at (get_or ns 6 0) → ecn ≡ opt8_at (get_or ns 7 0)
     → record {

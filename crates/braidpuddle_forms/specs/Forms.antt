@@ -1,6 +1,7 @@
 -- What reading and writing one form answers, in numbers. Assumes nothing.
-use Rattle.std.specs.Prelude.{ℕ, ◌-◌, ◌&&◌, List, [], ◌∷◌, leb, length}
-use Rattle.std.proofs.Math.Option.{Option, none, some}
+use Rattle.forms.specs.Refusals.{refusal_number}
+use Rattle.forms.specs.declared.refusal.Refusal.{Refusal}
+use Rattle.std.specs.Prelude.{ℕ, ◌-◌, ◌&&◌, List, [], ◌∷◌, leb, length, None, Option, Some, Result, Ok, Err}
 use Rattle.forms.specs.Lone.{Answer, value, refusal, read_one, Written, wrote, unwritten, write_one}
 use Rattle.key.specs.KeyForm.{key}
 use Rattle.key.specs.declared.key.FlowKey.{FlowKey}
@@ -25,6 +26,11 @@ abbrev pub wrote_as : Written × List ℕ → ℕ → (ℕ × ℕ) × List ℕ
 wrote_as (wrote n, out) before = ((0, n), out)
 wrote_as (unwritten k, out) before = ((k, before), out)
 
+-- the same of a call's answer
+abbrev pub reported : Result ℕ Refusal → ℕ → ℕ × ℕ
+reported (Ok n) before = (0, n)
+reported (Err why) before = (refusal_number why, before)
+
 -- ---- packets
 
 -- where a key form that ends at a place begins
@@ -44,8 +50,8 @@ packet_of ns k = record { facts = facts_from ns; key = k }
 
 -- its form, where the numbers fit and there is a key; else Packet, 4
 abbrev pub packet_under : List ℕ → Option FlowKey → List ℕ → Written × List ℕ
-packet_under ns (some k) out = write_one 4 (facts_fit ns) (packet.write (packet_of ns k)) out
-packet_under ns none out = (unwritten 4, out)
+packet_under ns (Some k) out = write_one 4 (facts_fit ns) (packet.write (packet_of ns k)) out
+packet_under ns None out = (unwritten 4, out)
 
 abbrev pub packet_written : List ℕ → List ℕ → List ℕ → Written × List ℕ
 packet_written ns bytes out = packet_under ns (whole_key bytes) out
@@ -65,9 +71,9 @@ closed_of ws reason = closed (record_of ws) (reason_from reason)
 
 -- its form, where the words fit, the number is a reason's, there is a key and the record is sound; else Damaged, 3
 abbrev pub record_under : List ℕ → ℕ → Option FlowKey → List ℕ → Written × List ℕ
-record_under ws reason (some k) out =
+record_under ws reason (Some k) out =
     write_one 3 (words_fit ws && leb reason 3 && sound_record (closed_of ws reason)) (record_bytes (record { key = k; «record» = closed_of ws reason })) out
-record_under ws reason none out = (unwritten 3, out)
+record_under ws reason None out = (unwritten 3, out)
 
 abbrev pub record_written : List ℕ → ℕ → List ℕ → List ℕ → Written × List ℕ
 record_written ws reason bytes out = record_under ws reason (whole_key bytes) out

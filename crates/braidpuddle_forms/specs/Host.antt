@@ -1,40 +1,29 @@
 -- A host's own record as its 37 words: begun, and counted on. Assumes nothing.
-use Rattle.std.specs.Prelude.{ℕ, zero, suc, cond, ◌&&◌, List, leb}
+use Rattle.forms.specs.Refusals.{refusal_number}
+use Rattle.forms.specs.declared.refusal.Refusal.{Refusal}
+use Rattle.std.specs.Prelude.{ℕ, zero, suc, cond, ◌&&◌, List, leb, Result, Ok, Err}
 use Rattle.flow.specs.Observed.{begun_of, observed_of}
 use Rattle.flow.specs.Sound.{sound_aside}
 use Rattle.flow.specs.declared.record.Direction.{Direction}
 use Rattle.flow.specs.declared.record.FlowRecord.{FlowRecord}
-use Rattle.flow.specs.declared.host.Begun.{Begun}
-use Rattle.flow.specs.declared.host.Counted.{Counted}
-use Rattle.flow.specs.declared.host.Refusal.{Refusal}
 use Rattle.wire.specs.RecordForm.{resolution_from}
 use Rattle.words.specs.Words.{words_of, record_of, words_fit}
 use Rattle.braidpuddle_forms.specs.Facts.{facts_fit, facts_from}
 
--- what beginning answers, and the words afterwards: refused, they stay as they were
-abbrev pub begun_as : Begun → List ℕ → ℕ × List ℕ
-begun_as (Begun.Record r) before = (0, words_of r)
-begun_as Begun.Packet before = (4, before)
+-- what beginning or counting answers, and the words afterwards: refused, they stay as they were
+abbrev pub counted_by : Result FlowRecord Refusal → List ℕ → ℕ × List ℕ
+counted_by (Ok r) before = (0, words_of r)
+counted_by (Err why) before = (refusal_number why, before)
 
 -- "begun with its first packet counted forward"; Packet, 4, where a field is out of range
 abbrev pub begun_words : List ℕ → ℕ → ℕ → List ℕ → ℕ × List ℕ
 begun_words ns protocol resolution before =
-    cond (facts_fit ns && leb protocol 255) (begun_as (begun_of (resolution_from resolution) protocol (facts_from ns)) before) (4, before)
+    cond (facts_fit ns && leb protocol 255) (counted_by (begun_of (resolution_from resolution) protocol (facts_from ns)) before) (4, before)
 
 -- "in a direction it names": 0 is forward, any other number reverse
 abbrev pub direction_named : ℕ → Direction
 direction_named zero = Direction.Forward
 direction_named (suc n) = Direction.Reverse
-
--- what counting answers, and the words afterwards: refused, they stay as they were
-abbrev pub counted_as : Refusal → FlowRecord → List ℕ → ℕ × List ℕ
-counted_as Refusal.None after before = (0, words_of after)
-counted_as Refusal.Damaged after before = (3, before)
-counted_as Refusal.Packet after before = (4, before)
-counted_as Refusal.Spent after before = (6, before)
-
-abbrev pub counted_by : Counted → List ℕ → ℕ × List ℕ
-counted_by c before = counted_as c.refusal c.flow before
 
 -- "Damaged (end reason aside), Packet or Spent, in that order"
 abbrev pub counted_words : List ℕ → ℕ → List ℕ → ℕ × List ℕ

@@ -1,22 +1,20 @@
 -- A key given as bytes, and what is asked of it. Assumes nothing.
-use Rattle.std.specs.Prelude.{ℕ, ◌-◌, ◌^◌, true, List}
-use Rattle.std.proofs.Math.Option.{Option, none, some}
+use Rattle.std.specs.Prelude.{ℕ, ◌-◌, ◌^◌, true, List, None, Option, Some}
 use Rattle.forms.specs.Lone.{Written, unwritten, write_one}
-use Rattle.forms.specs.declared.optional.OptU8.{OptU8}
 use Rattle.key.specs.KeyForm.{key}
 use Rattle.key.specs.declared.key.FlowKey.{FlowKey}
 
 -- what is asked of a key; 2^64 − 1 where there is none
 abbrev pub of_key : Option FlowKey → (FlowKey → ℕ) → ℕ
-of_key (some k) ask = ask k
-of_key none ask = 2 ^ 64 - 1
+of_key (Some k) ask = ask k
+of_key None ask = 2 ^ 64 - 1
 
 -- the IP version; 0 for none
-abbrev pub version_number : OptU8 → ℕ
-version_number OptU8.Absent = 0
-version_number (OptU8.Present v) = v
+abbrev pub version_number : Option ℕ → ℕ
+version_number None = 0
+version_number (Some v) = v
 
 -- the form of the key that is made of the one given; Packet, 4, where there is none
 abbrev pub key_written : Option FlowKey → (FlowKey → FlowKey) → List ℕ → Written × List ℕ
-key_written (some k) make out = write_one 4 true (key.write (make k)) out
-key_written none make out = (unwritten 4, out)
+key_written (Some k) make out = write_one 4 true (key.write (make k)) out
+key_written None make out = (unwritten 4, out)

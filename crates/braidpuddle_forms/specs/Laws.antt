@@ -1,7 +1,6 @@
 -- What was written is read back: a packet's numbers, a record's words, and the key beside them. Assumes nothing.
-use Rattle.std.specs.Prelude.{ℕ, ◌+◌, ◌-◌, ◌^◌, ◌≤◌, ◌<◌, ◌≡◌, refl, Bool, true, false, cond, ◌&&◌, List, [], ◌∷◌, ◌++◌, leb, length, get_or, take, drop}
+use Rattle.std.specs.Prelude.{ℕ, ◌+◌, ◌-◌, ◌^◌, ◌≤◌, ◌<◌, ◌≡◌, refl, Bool, true, false, cond, ◌&&◌, List, [], ◌∷◌, ◌++◌, leb, length, get_or, take, drop, None, Option, Some}
 use Rattle.std.proofs.Common.{sym, ap, ◌∙◌, append_assoc, arith, le-leb, lt-ltb, leb-true, length-append, drop_at}
-use Rattle.std.proofs.Math.Option.{Option, none, some}
 use Rattle.std.proofs.Math.Seq.{take-append_seam}
 use Rattle.forms.specs.Lone.{value, read_one, Written, wrote, unwritten, write_one}
 use Rattle.forms.specs.Number.{below_number}
@@ -84,10 +83,10 @@ fit_in_range ns t e =
 
 -- ---- a whole key: exactly the bytes of a key in range are one
 
-pub whole_written : (k : FlowKey) → KeyInRange k → whole_key (key.write k) ≡ some k
+pub whole_written : (k : FlowKey) → KeyInRange k → whole_key (key.write k) ≡ Some k
 whole_written k h = whole_no (key.write k) k h refl
 
-pub whole_bytes : (bytes : List ℕ) (k : FlowKey) → whole_key bytes ≡ some k → KeyInRange k × (key.write k ≡ bytes)
+pub whole_bytes : (bytes : List ℕ) (k : FlowKey) → whole_key bytes ≡ Some k → KeyInRange k × (key.write k ≡ bytes)
 whole_bytes = whole_yes
 
 -- ---- where a key form lies that ends a longer form
@@ -99,7 +98,7 @@ between front back rest =
 
 -- the bytes that the two places of a packet that was read enclose are its key's form
 pub packet_key : (bytes : List ℕ) (p : Packet) (used : ℕ) → read_one 4 packet bytes ≡ value p used
-    → whole_key (drop (key_begins p.key used) (take used bytes)) ≡ some p.key
+    → whole_key (drop (key_begins p.key used) (take used bytes)) ≡ Some p.key
 packet_key bytes p used e =
     let (rest, ok, is, many) = packet_was_written bytes p used e in
     let form = packet_writes p in
@@ -125,7 +124,7 @@ key_in_flow f h = h.key
 
 -- and those of a record
 pub record_key : (bytes : List ℕ) (f : Flow) (used : ℕ) → read_record bytes ≡ value f used
-    → whole_key (drop (key_begins f.key used) (take used bytes)) ≡ some f.key
+    → whole_key (drop (key_begins f.key used) (take used bytes)) ≡ Some f.key
 record_key bytes f used e =
     let (rest, sound, ok, is, many) = record_was_written bytes f used e in
     let form = record_splits f in
@@ -162,14 +161,14 @@ packet_written_back ns bytes out after n before many time e = go (whole_key byte
   where
     go : (w : Option FlowKey) → whole_key bytes ≡ w → packet_under ns w out ≡ (wrote n, after)
         → packet_told after before ≡ (0, (ns, (n - length bytes) ∷ n ∷ []))
-    go (some k) q h =
+    go (Some k) q h =
         let (fits, size, is) = written_so 4 (facts_fit ns) (packet.write (packet_of ns k)) out after n h in
         let (named, spelt) = whole_bytes bytes k q in
         let ok : PacketInRange (packet_of ns k) = record { facts = fit_in_range ns time fits; key = named } in
         let back = packet_read_back (packet_of ns k) (drop (length (packet.write (packet_of ns k))) out) ok in
         let reads : read_one 4 packet after ≡ value (packet_of ns k) n = rw (is, size) back in
         rw (reads, spelt, numbers_back ns many) refl
-    go none q h = absurd (unwritten_wrote 4 n (ap (λ (x : Written × List ℕ). x.0) h))
+    go None q h = absurd (unwritten_wrote 4 n (ap (λ (x : Written × List ℕ). x.0) h))
 
 -- ---- records
 
@@ -228,7 +227,7 @@ record_written_back ws bytes out after reason n before many below e = go (whole_
   where
     go : (w : Option FlowKey) → whole_key bytes ≡ w → record_under ws reason w out ≡ (wrote n, after)
         → record_told after before ≡ (0, (ws, (n - length bytes) ∷ n ∷ reason ∷ []))
-    go (some k) q h =
+    go (Some k) q h =
         let f : Flow = record { key = k; «record» = closed_of ws reason } in
         let (allowed, size, is) = written_so 3 (words_fit ws && leb reason 3 && sound_record (closed_of ws reason)) (record_bytes f) out after n h in
         let (tested, sound) = both (words_fit ws && leb reason 3) (sound_record (closed_of ws reason)) allowed in
@@ -238,4 +237,4 @@ record_written_back ws bytes out after reason n before many below e = go (whole_
         let reads : read_record after ≡ value f n = rw (is, size) back in
         let told-so : record_told after before ≡ (0, record_numbers f n) = rw reads in
         told-so ∙ ap (λ (x : List ℕ × List ℕ). (0, x)) (closed_numbers ws reason k n many fits (leb-true reason 3 low)) ∙ rw spelt
-    go none q h = absurd (unwritten_wrote 3 n (ap (λ (x : Written × List ℕ). x.0) h))
+    go None q h = absurd (unwritten_wrote 3 n (ap (λ (x : Written × List ℕ). x.0) h))

@@ -6,14 +6,13 @@ ghost use Rattle.forms.specs.Number.{number, number_bytes};
 ghost use Rattle.braidpuddle_forms.specs.Forms.{told, wrote_as, packet_told, packet_written, record_told, closed_of, record_written};
 
 use crate::facts::{fact_numbers, facts_fit, facts_from};
+use crate::report::report;
 use flow::record::FlowRecord;
-use forms::number::{ReadNumber, WroteNumber, read_lone_number, write_lone_number};
+use forms::number::{read_lone_number, write_lone_number};
 use key::form::key_len;
-use state::slot::{WholeKey, whole_key};
-use wire::packet::{Packet, ReadPacket, WrotePacket, read_packet, write_packet};
-use wire::record::{
-    Flow, ReadRecord, WroteRecord, read_record, reason_from, reason_number, write_record,
-};
+use state::slot::whole_key;
+use wire::packet::{Packet, read_packet, write_packet};
+use wire::record::{Flow, read_record, reason_from, reason_number, write_record};
 use words::words::{record_of, words_fit, words_of};
 
 // The number, at most `most`, that the bytes begin with: `answer` is its value and the bytes used.
@@ -21,12 +20,11 @@ pub fn braidpuddle_read_number(bytes: &[u8], most: u64, answer: &mut [u64; 2]) -
     ensures { (result, answer.new) ≡ told (read_one 4 (number most) bytes.now) (λ v used. v ∷ used ∷ []) answer.old }
 {
     match read_lone_number(bytes, most) {
-        ReadNumber::Value(value, used) => {
+        Ok((value, used)) => {
             *answer = [value, used as u64];
             0
         }
-        ReadNumber::Packet => 4,
-        ReadNumber::Short => 9,
+        Err(refusal) => refusal.number() as u64,
     }
 }
 
@@ -34,14 +32,7 @@ pub fn braidpuddle_read_number(bytes: &[u8], most: u64, answer: &mut [u64; 2]) -
 pub fn braidpuddle_write_number(out: &mut [u8], value: u64, most: u64, written: &mut u64) -> u64
     ensures { ((result, written.new), out.new) ≡ wrote_as (write_one 4 (leb value most) (number_bytes value) out.old) written.old }
 {
-    match write_lone_number(out, value, most) {
-        WroteNumber::Bytes(n) => {
-            *written = n as u64;
-            0
-        }
-        WroteNumber::Packet => 4,
-        WroteNumber::Room => 7,
-    }
+    report(write_lone_number(out, value, most), written)
 }
 
 // The packet that the bytes begin with: `packet` is its numbers, `place` where its key form begins and where it ends.
@@ -49,16 +40,13 @@ pub fn braidpuddle_read_packet(bytes: &[u8], packet: &mut [u64; 8], place: &mut 
     ensures { (result, (packet.new, place.new)) ≡ packet_told bytes.now (packet.old, place.old) }
 {
     match read_packet(bytes) {
-        ReadPacket::Value(read, used) => {
-            let facts = read.facts;
-            let key = read.key;
-            let begins = used - key_len(key);
-            *packet = fact_numbers(facts);
+        Ok((read, used)) => {
+            let begins = used - key_len(read.key);
+            *packet = fact_numbers(read.facts);
             *place = [begins as u64, used as u64];
             0
         }
-        ReadPacket::Packet => 4,
-        ReadPacket::Short => 9,
+        Err(refusal) => refusal.number() as u64,
     }
 }
 
@@ -71,28 +59,14 @@ pub fn braidpuddle_write_packet(
 ) -> u64
     ensures { ((result, written.new), out.new) ≡ wrote_as (packet_written packet.now key.now out.old) written.old }
 {
-    let WholeKey::Key(named) = whole_key(key) else {
+    let Some(named) = whole_key(key) else {
         return 4;
     };
-    if facts_fit(packet) {
-        let facts = facts_from(packet);
-        let wrote = write_packet(
-            out,
-            Packet {
-                facts: facts,
-                key: named,
-            },
-        );
-        return match wrote {
-            WrotePacket::Bytes(n) => {
-                *written = n as u64;
-                0
-            }
-            WrotePacket::Packet => 4,
-            WrotePacket::Room => 7,
-        };
+    if !facts_fit(packet) {
+        return 4;
     }
-    4
+    let facts = facts_from(packet);
+    report(write_packet(out, Packet { facts, key: named }), written)
 }
 
 // The record that the bytes begin with: `record` is its words, `place` where its key form begins, where it ends, and the number
@@ -101,18 +75,17 @@ pub fn braidpuddle_read_record(bytes: &[u8], record: &mut [u64; 37], place: &mut
     ensures { (result, («record».new, place.new)) ≡ record_told bytes.now («record».old, place.old) }
 {
     match read_record(bytes) {
-        ReadRecord::Value(flow, used) => {
-            let read = flow.record;
-            let key = flow.key;
-            let time = read.time;
-            let reason = time.end_reason;
-            let begins = used - key_len(key);
-            *record = words_of(read);
-            *place = [begins as u64, used as u64, reason_number(reason)];
+        Ok((flow, used)) => {
+            let begins = used - key_len(flow.key);
+            *record = words_of(flow.record);
+            *place = [
+                begins as u64,
+                used as u64,
+                reason_number(flow.record.time.end_reason),
+            ];
             0
         }
-        ReadRecord::Record => 8,
-        ReadRecord::Short => 9,
+        Err(refusal) => refusal.number() as u64,
     }
 }
 
@@ -121,8 +94,7 @@ fn closed_record(record: &[u64; 37], reason: u64) -> FlowRecord
     requires { words_fit «record».now ≡ true }
     ensures { result ≡ closed_of «record».now reason }
 {
-    let open = record_of(record);
-    open.close(reason_from(reason))
+    record_of(record).close(reason_from(reason))
 }
 
 // The form of the record of these words, this end reason and this key at the front of `out`: `written` is how many bytes it took.
@@ -135,26 +107,15 @@ pub fn braidpuddle_write_record(
 ) -> u64
     ensures { ((result, written.new), out.new) ≡ wrote_as (record_written «record».now reason key.now out.old) written.old }
 {
-    let WholeKey::Key(named) = whole_key(key) else {
+    let Some(named) = whole_key(key) else {
         return 3;
     };
     if words_fit(record) & (reason <= 3) {
-        let closed = closed_record(record, reason);
-        let wrote = write_record(
-            out,
-            Flow {
-                key: named,
-                record: closed,
-            },
-        );
-        return match wrote {
-            WroteRecord::Bytes(n) => {
-                *written = n as u64;
-                0
-            }
-            WroteRecord::Damaged => 3,
-            WroteRecord::Room => 7,
+        let flow = Flow {
+            key: named,
+            record: closed_record(record, reason),
         };
+        return report(write_record(out, flow), written);
     }
     3
 }

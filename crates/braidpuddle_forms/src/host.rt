@@ -3,7 +3,7 @@ ghost use Rattle.std.specs.Prelude.{◌≡◌};
 ghost use Rattle.braidpuddle_forms.specs.Host.{begun_words, counted_words, direction_named};
 
 use crate::facts::{facts_fit, facts_from};
-use flow::host::{Begun, Refusal, begin, observed};
+use flow::host::{begin, observed};
 use flow::record::Direction;
 use flow::sound::sound_aside;
 use wire::record::resolution_from;
@@ -21,11 +21,11 @@ pub fn braidpuddle_begin(
     if facts_fit(packet) & (protocol <= 255) {
         let facts = facts_from(packet);
         return match begin(resolution_from(resolution), protocol as u8, facts) {
-            Begun::Record(begun) => {
+            Ok(begun) => {
                 *record = words_of(begun);
                 0
             }
-            Begun::Packet => 4,
+            Err(refusal) => refusal.number() as u64,
         };
     }
     4
@@ -49,17 +49,12 @@ pub fn braidpuddle_count(record: &mut [u64; 37], direction: u64, packet: &[u64; 
         let before = record_of(record);
         if facts_fit(packet) {
             let facts = facts_from(packet);
-            let counted = observed(before, direction_named(direction), facts);
-            let refusal = counted.refusal;
-            let after = counted.flow;
-            return match refusal {
-                Refusal::None => {
+            return match observed(before, direction_named(direction), facts) {
+                Ok(after) => {
                     *record = words_of(after);
                     0
                 }
-                Refusal::Damaged => 3,
-                Refusal::Packet => 4,
-                Refusal::Spent => 6,
+                Err(refusal) => refusal.number() as u64,
             };
         }
         if sound_aside(before) {

@@ -6,15 +6,15 @@ ghost use Rattle.braidpuddle_forms.specs.Forms.{wrote_as};
 ghost use Rattle.braidpuddle_forms.specs.Keys.{of_key, version_number, key_written};
 ghost use Rattle.state.specs.SlotTest.{whole_key};
 
-use forms::optional::OptU8;
-use key::form::{WroteKey, write_key};
-use state::slot::{WholeKey, whole_key};
+use crate::report::report;
+use key::form::write_key;
+use state::slot::whole_key;
 
 // Which of `shards` workers the key's flow belongs to; 2^64 − 1 where the bytes are no key form.
 pub fn braidpuddle_shard(key: &[u8], shards: u64) -> u64
     ensures { result ≡ of_key (whole_key key.now) (λ k. shard_of k shards) }
 {
-    let WholeKey::Key(named) = whole_key(key) else {
+    let Some(named) = whole_key(key) else {
         return 0xffff_ffff_ffff_ffff;
     };
     named.shard(shards)
@@ -24,7 +24,7 @@ pub fn braidpuddle_shard(key: &[u8], shards: u64) -> u64
 pub fn braidpuddle_protocol_name(key: &[u8]) -> u64
     ensures { result ≡ of_key (whole_key key.now) key_name }
 {
-    let WholeKey::Key(named) = whole_key(key) else {
+    let Some(named) = whole_key(key) else {
         return 0xffff_ffff_ffff_ffff;
     };
     named.protocol_name() as u64
@@ -34,13 +34,12 @@ pub fn braidpuddle_protocol_name(key: &[u8]) -> u64
 pub fn braidpuddle_ip_version(key: &[u8]) -> u64
     ensures { result ≡ of_key (whole_key key.now) (λ k. version_number (version_of k)) }
 {
-    let WholeKey::Key(named) = whole_key(key) else {
+    let Some(named) = whole_key(key) else {
         return 0xffff_ffff_ffff_ffff;
     };
-    let version = named.ip_version();
-    match version {
-        OptU8::Absent => 0,
-        OptU8::Present(number) => number as u64,
+    match named.ip_version() {
+        None => 0,
+        Some(number) => number as u64,
     }
 }
 
@@ -48,32 +47,18 @@ pub fn braidpuddle_ip_version(key: &[u8]) -> u64
 pub fn braidpuddle_reversed(key: &[u8], out: &mut [u8], written: &mut u64) -> u64
     ensures { ((result, written.new), out.new) ≡ wrote_as (key_written (whole_key key.now) reversed_key out.old) written.old }
 {
-    let WholeKey::Key(named) = whole_key(key) else {
+    let Some(named) = whole_key(key) else {
         return 4;
     };
-    let other = named.reversed();
-    match write_key(out, other) {
-        WroteKey::Bytes(n) => {
-            *written = n as u64;
-            0
-        }
-        WroteKey::Room => 7,
-    }
+    report(write_key(out, named.reversed()), written)
 }
 
 // The form of the key with both MACs zero, at the front of `out`.
 pub fn braidpuddle_forget_link_addresses(key: &[u8], out: &mut [u8], written: &mut u64) -> u64
     ensures { ((result, written.new), out.new) ≡ wrote_as (key_written (whole_key key.now) forgotten out.old) written.old }
 {
-    let WholeKey::Key(named) = whole_key(key) else {
+    let Some(named) = whole_key(key) else {
         return 4;
     };
-    let other = named.forget_link_addresses();
-    match write_key(out, other) {
-        WroteKey::Bytes(n) => {
-            *written = n as u64;
-            0
-        }
-        WroteKey::Room => 7,
-    }
+    report(write_key(out, named.forget_link_addresses()), written)
 }

@@ -6,3 +6,4 @@ pub mod facts;
 pub mod form;
 pub mod host;
 pub mod keys;
+mod report;

@@ -1,6 +1,8 @@
 -- Document 01's "Examples on each side", P1 to P11, and the rows of ours, as promises of the calls: whoever opens a state and makes the calls of a
 -- row, each call keeping its promise, is answered as the row says, `examples_kept` and `further_kept`. Assumes nothing.
-use Rattle.std.specs.Prelude.{ℕ, ◌+◌, ◌≡◌, refl, Bool, true, false, cond, ◌&&◌, List, [], ◌∷◌, ◌++◌, map, T, eqb, leb, length, drop}
+use Rattle.forms.specs.Refusals.{stop_number}
+use Rattle.forms.specs.declared.refusal.Refusal.{Refusal as CallRefusal}
+use Rattle.std.specs.Prelude.{ℕ, ◌+◌, ◌≡◌, refl, Bool, true, false, cond, ◌&&◌, List, [], ◌∷◌, ◌++◌, map, T, eqb, leb, length, drop, Option}
 use Rattle.std.proofs.Common.{sym, ap, ◌∙◌, subst, eqb→eq}
 use Rattle.std.proofs.lemmas.List.{length-map}
 use Rattle.flow.specs.Idle.{timeout_of}
@@ -34,8 +36,8 @@ use Rattle.engine.specs.Calls as Calls
 -- the call was made on the state s, lent so much output, and kept its promise; a sweep and a drain take no packets and open no flows
 abbrev pub Keeps : Call → (s room : List ℕ) (refusal taken opened records bytes : ℕ) (after out : List ℕ) → Type 0
 Keeps (feed n ps ends) s room refusal taken opened records bytes after out =
-    (batch : List ℕ) × (used : ℕ) × (length room ≡ n) × (parsed batch ≡ record { packets = ps; ends = ends })
-    × Fed s batch room (record { refusal = refusal; packets = taken; used = used; opened = opened; records = records; bytes = bytes }) after out
+    (batch : List ℕ) × (used : ℕ) × (why : Option CallRefusal) × (length room ≡ n) × (parsed batch ≡ record { packets = ps; ends = ends })
+    × (stop_number why ≡ refusal) × Fed s batch room (record { refusal = why; packets = taken; used = used; opened = opened; records = records; bytes = bytes }) after out
 Keeps (sweep n t) s room refusal taken opened records bytes after out =
     (length room ≡ n) × (taken ≡ 0) × (opened ≡ 0) × Swept t s room refusal records bytes after out
 Keeps (drain n) s room refusal taken opened records bytes after out =
@@ -186,10 +188,14 @@ batch_is x room n batch ps ends e l p =
 
 did_call : (c : Call) (s : List ℕ) (m : Made c s) → Sound s → DidCall (answer key_bytes record_size (settings_in s) c (meaning s)) c s m
 did_call (feed n ps ends) s m h =
-    let (batch, used, long, is, fed) = m.kept in
+    let (batch, used, why, long, is, number, fed) = m.kept in
     let f = fed.told h in
     subst (λ (t : Told engine). DidCall t (feed n ps ends) s m) (batch_is (settings_in s) (length m.room) n batch ps ends (meaning s) long is)
-    (record { did = f.did; taken = f.taken; opened = f.opened })
+    (record {
+      did = subst (λ (k : ℕ). Did (feed_bytes (settings_in s) (length m.room) batch (meaning s)) s m.room k m.records m.bytes m.after m.out) number f.did;
+      taken = f.taken;
+      opened = f.opened;
+    })
 did_call (sweep n t) s m h =
     let (long, taken, opens, swept) = m.kept in
     let none = sweep_none (settings_in s) (length m.room) t (meaning s) in
@@ -277,14 +283,14 @@ pub fed_made : (s batch room : List ℕ) (r : FeedAnswer) (after out : List ℕ)
     → Made (feed (length room) (parsed batch).packets (parsed batch).ends) s
 fed_made s batch room r after out f = record {
   room = room;
-  refusal = r.refusal;
+  refusal = stop_number r.refusal;
   taken = r.packets;
   opened = r.opened;
   records = r.records;
   bytes = r.bytes;
   after = after;
   out = out;
-  kept = (batch, r.used, refl, refl, f);
+  kept = (batch, r.used, r.refusal, refl, refl, refl, f);
 }
 
 pub swept_made : (s room : List ℕ) (t refusal records bytes : ℕ) (after out : List ℕ) → Swept t s room refusal records bytes after out

@@ -1,8 +1,8 @@
 -- The examples' rows are of calls that can be made. Packets in range are read back from their forms, one behind another, so that every batch of the
 -- tables can be handed in; and a row that begins with open flows begins with a sound engine. Assumes nothing.
-use Rattle.std.specs.Prelude.{ℕ, ◌-◌, ◌^◌, ◌≤◌, ◌<◌, ◌≡◌, refl, Bool, true, false, ◌&&◌, List, [], ◌∷◌, ◌++◌, T, ltb, leb, eqb, length}
+use Rattle.std.specs.Prelude.{ℕ, ◌-◌, ◌^◌, ◌≤◌, ◌<◌, ◌≡◌, refl, Bool, true, false, ◌&&◌, List, [], ◌∷◌, ◌++◌, T, ltb, leb, eqb, length, None, Option, Some}
 use Rattle.std.proofs.Common.{sym, ap, ◌∙◌, append_assoc, append-nil, arith, ltb→lt, leb→le, eqb→eq, length-append, drop_at}
-use Rattle.forms.specs.Form.{Form, Read, got, short, refused, and_then}
+use Rattle.forms.specs.Form.{Form, Read, got, and_then}
 use Rattle.forms.specs.Form.{over, over_reads, over_ends, pair, pair_is, pair_ends, follow_reads, with_first_is}
 use Rattle.forms.specs.At.{read_at, placed_front}
 use Rattle.forms.specs.Number.{number, read_groups, number_reads, number_ends}
@@ -13,9 +13,6 @@ use Rattle.key.specs.declared.key.Endpoints.{Endpoints}
 use Rattle.key.specs.declared.key.FlowKey.{FlowKey}
 use Rattle.key.specs.declared.link.MacAddress.{MacAddress}
 use Rattle.key.specs.declared.vlan.VlanTags.{VlanTags}
-use Rattle.key.specs.declared.encapsulation.OptEncapsulation.{OptEncapsulation}
-use Rattle.stats.specs.declared.range.OptRange8.{OptRange8}
-use Rattle.stats.specs.declared.range.OptRange32.{OptRange32}
 use Rattle.flow.specs.Sound.{sound_flags, sound_direction, sound_aside}
 use Rattle.flow.specs.declared.record.PacketFacts.{PacketFacts}
 use Rattle.flow.specs.declared.record.FlowRecord.{FlowRecord}
@@ -31,6 +28,10 @@ use Rattle.rules.specs.EngineSound.{SoundEngine}
 use Rattle.rules.specs.Table.{Call, feed, sweep, drain, Step, Row, plays, from, holds, flows_of, opened_with, examples, further}
 use Rattle.rules.proofs.TableLaws.{both_hold}
 use Rattle.engine.specs.Batch.{Parsed, parsed, packet_here, parsed_end, short_here, refused_here}
+use Rattle.key.specs.declared.encapsulation.Encapsulation.{Encapsulation}
+use Rattle.stats.specs.declared.range.Range.{Range}
+use Rattle.forms.specs.Form.{stop}
+use Rattle.forms.specs.declared.stop.Stop.{Stop}
 
 -- ## Packets are read back
 
@@ -105,9 +106,9 @@ vlan_fits VlanTags.Untagged = true
 vlan_fits (VlanTags.Single t) = ltb t (2 ^ 16)
 vlan_fits (VlanTags.Double t u) = ltb t (2 ^ 16) && ltb u (2 ^ 16)
 
-abbrev tunnel_fits : OptEncapsulation → Bool
-tunnel_fits OptEncapsulation.Absent = true
-tunnel_fits (OptEncapsulation.Present e) = ltb e.kind (2 ^ 8) && leb (number32 e.id) (2 ^ 32)
+abbrev tunnel_fits : Option Encapsulation → Bool
+tunnel_fits None = true
+tunnel_fits (Some e) = ltb e.kind (2 ^ 8) && leb (number32 e.id) (2 ^ 32)
 
 abbrev key_tests : FlowKey → List Bool
 key_tests k =
@@ -157,9 +158,9 @@ vlan_fits_lem VlanTags.Untagged t = tt
 vlan_fits_lem (VlanTags.Single a) t = ltb→lt a (2 ^ 16) t
 vlan_fits_lem (VlanTags.Double a b) t = both_below a b (2 ^ 16) (2 ^ 16) t
 
-tunnel_fits_lem : (e : OptEncapsulation) → T (tunnel_fits e) → EncapsulationInRange e
-tunnel_fits_lem OptEncapsulation.Absent t = tt
-tunnel_fits_lem (OptEncapsulation.Present e) t =
+tunnel_fits_lem : (e : Option Encapsulation) → T (tunnel_fits e) → EncapsulationInRange e
+tunnel_fits_lem None t = tt
+tunnel_fits_lem (Some e) t =
     let h = both_hold (ltb e.kind (2 ^ 8)) (leb (number32 e.id) (2 ^ 32)) t in
     (ltb→lt e.kind (2 ^ 8) h.0, leb→le (number32 e.id) (2 ^ 32) h.1)
 
@@ -210,30 +211,30 @@ ends_fit Spent = false
 ends_fit Room = false
 
 module _ {A B : Type 0} (f : Form A) (g : Form B) (l : List ℕ) where
-  first_refused : f.read l ≡ refused → (pair f g).read l ≡ refused
+  first_refused : f.read l ≡ stop Stop.Refused → (pair f g).read l ≡ stop Stop.Refused
   first_refused e = rw (pair_is, follow_reads, e)
 
-  first_short : f.read l ≡ short → (pair f g).read l ≡ short
+  first_short : f.read l ≡ stop Stop.Short → (pair f g).read l ≡ stop Stop.Short
   first_short e = rw (pair_is, follow_reads, e)
 
-  then_short : (a : A) → f.read l ≡ got a [] → g.read [] ≡ short → (pair f g).read l ≡ short
+  then_short : (a : A) → f.read l ≡ got a [] → g.read [] ≡ stop Stop.Short → (pair f g).read l ≡ stop Stop.Short
   then_short a e h =
       rw (pair_is, follow_reads, e)
       (ap (λ (x : Form (A × B)). x.read []) (with_first_is f g a) ∙ over_ends (λ b. (a, b)) (λ x. x.1) g (λ b v. refl) h)
 
 module _ {A B : Type 0} (to : A → B) (back : B → A) (f : Form A) (undo : (a : A) → f.valid a → back (to a) ≡ a) (l : List ℕ) where
-  over_refused : f.read l ≡ refused → (over to back f undo).read l ≡ refused
+  over_refused : f.read l ≡ stop Stop.Refused → (over to back f undo).read l ≡ stop Stop.Refused
   over_refused e = rw (over_reads, e)
 
-  over_short : f.read l ≡ short → (over to back f undo).read l ≡ short
+  over_short : f.read l ≡ stop Stop.Short → (over to back f undo).read l ≡ stop Stop.Short
   over_short e = rw (over_reads, e)
 
 -- a time that is not in its shortest form
-bad_number : (number top64).read (128 ∷ 0 ∷ []) ≡ refused
+bad_number : (number top64).read (128 ∷ 0 ∷ []) ≡ stop Stop.Refused
 unfolding read_groups
 bad_number = ap (λ (read : List ℕ → Read ℕ (List ℕ)). read (128 ∷ 0 ∷ [])) (number_reads top64)
 
-bad_time : packet.read (128 ∷ 0 ∷ []) ≡ refused
+bad_time : packet.read (128 ∷ 0 ∷ []) ≡ stop Stop.Refused
 unfolding packet facts
 bad_time =
     over_refused to_packet from_packet _ (λ x v. refl) _
@@ -244,7 +245,7 @@ whole_number : (number top64).read (0 ∷ []) ≡ got 0 []
 unfolding read_groups
 whole_number = ap (λ (read : List ℕ → Read ℕ (List ℕ)). read (0 ∷ [])) (number_reads top64)
 
-only_time : packet.read (0 ∷ []) ≡ short
+only_time : packet.read (0 ∷ []) ≡ stop Stop.Short
 unfolding packet facts
 only_time =
     over_short to_packet from_packet _ (λ x v. refl) _
@@ -258,10 +259,10 @@ batch_for : (ps : List Packet) (ends : Refusal) → All PacketInRange ps → T (
 batch_for ps Accepted a t = (forms ps, batch_of_packets ps a)
 batch_for ps BadPacket a t =
     let l : List ℕ = 128 ∷ 0 ∷ [] in
-    (forms ps ++ l, packets_end ps l BadPacket a (refused_here l 0 (omega arith) (at_front l refused bad_time)))
+    (forms ps ++ l, packets_end ps l BadPacket a (refused_here l 0 (omega arith) (at_front l (stop Stop.Refused) bad_time)))
 batch_for ps Short a t =
     let l : List ℕ = 0 ∷ [] in
-    (forms ps ++ l, packets_end ps l Short a (short_here l 0 (omega arith) (at_front l short only_time)))
+    (forms ps ++ l, packets_end ps l Short a (short_here l 0 (omega arith) (at_front l (stop Stop.Short) only_time)))
 batch_for ps Full a t = absurd t
 batch_for ps Spent a t = absurd t
 batch_for ps Room a t = absurd t
@@ -326,10 +327,10 @@ RowSound (from ms capacity clock flows steps) =
     SoundEngine (opened_with key_bytes record_size ms capacity) (record { clock = clock; flows = flows_of key_bytes record_size flows })
 RowSound (holds ms t) = Unit {0}
 
-abbrev lengths_fit : OptRange32 → Bool
+abbrev lengths_fit : Option (Range ℕ) → Bool
 lengths_fit o = leb (number32 (least_of32 o)) (2 ^ 32) && leb (number32 (greatest_of32 o)) (2 ^ 32)
 
-abbrev ttl_fits : OptRange8 → Bool
+abbrev ttl_fits : Option (Range ℕ) → Bool
 ttl_fits o = leb (number8 (least_of8 o)) (2 ^ 8) && leb (number8 (greatest_of8 o)) (2 ^ 8)
 
 abbrev flow_tests : FlowKey → FlowRecord → List Bool
@@ -342,10 +343,10 @@ flow_tests k r =
 both_at_most : (a b n : ℕ) → T (leb a n && leb b n) → (a ≤ n) × (b ≤ n)
 both_at_most a b n t = let h = both_hold (leb a n) (leb b n) t in (leb→le a n h.0, leb→le b n h.1)
 
-lengths_fit_lem : (o : OptRange32) → T (lengths_fit o) → LengthsInRange o
+lengths_fit_lem : (o : Option (Range ℕ)) → T (lengths_fit o) → LengthsInRange o
 lengths_fit_lem o t = both_at_most (number32 (least_of32 o)) (number32 (greatest_of32 o)) (2 ^ 32) t
 
-ttl_fits_lem : (o : OptRange8) → T (ttl_fits o) → TtlInRange o
+ttl_fits_lem : (o : Option (Range ℕ)) → T (ttl_fits o) → TtlInRange o
 ttl_fits_lem o t = both_at_most (number8 (least_of8 o)) (number8 (greatest_of8 o)) (2 ^ 8) t
 
 flow_sound : (k : FlowKey) (r : FlowRecord) → T (passed (flow_tests k r)) → SoundFlow k r

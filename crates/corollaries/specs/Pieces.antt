@@ -1,10 +1,11 @@
 -- A batch fed in two pieces is the batch fed in one: a caller who reads a stream feeds what the first call left, with more behind it, into the
 -- rest of the output. Of the promises, whatever the first call answered. Assumes nothing.
+use Rattle.forms.specs.Refusals.{stop_number}
 use Rattle.std.specs.Prelude.{ℕ, zero, suc, ◌+◌, ◌-◌, ◌≤◌, ◌≡◌, refl, List, [], ◌∷◌, ◌++◌, length, take, drop}
 use Rattle.std.proofs.Common.{sym, ap, ◌∙◌, subst, append_assoc, arith, length-append, length-drop, drop_of_length-le, drop-drop, drop_at, take_at, take_all}
 use Rattle.std.proofs.Math.Path.{subst⁻¹}
 use Rattle.std.proofs.Math.Seq.{take-append-add, drop-append-add}
-use Rattle.forms.specs.Form.{Read, got, short, refused}
+use Rattle.forms.specs.Form.{Read, got}
 use Rattle.wire.specs.PacketForm.{packet}
 use Rattle.wire.specs.PacketTheorems.{packet_at_least}
 use Rattle.wire.specs.declared.packet.Packet.{Packet}
@@ -20,6 +21,8 @@ use Rattle.sweeps.specs.Promise.{NothingDone}
 use Rattle.engine.specs.declared.FeedAnswer.{FeedAnswer}
 use Rattle.engine.specs.Batch.{Parsed, parsed, parsed_by, form_bytes, feed_bytes, begins, shorter, parsed_end}
 use Rattle.engine.specs.Feed.{FedAs, Fed}
+use Rattle.forms.specs.Form.{stop}
+use Rattle.forms.specs.declared.stop.Stop.{Stop}
 
 -- ## The bytes
 
@@ -63,8 +66,8 @@ read_on (suc k) (b ∷ bs) more = go (packet.read (b ∷ bs)) refl (λ l. read_o
         subst⁻¹ (λ (x : Parsed). ReadOn (b ∷ bs) more (take (suc k) x.packets)) (parsed_got (b ∷ bs) p rest e)
         (parsed_got (b ∷ bs ++ more) p (rest ++ more) (read_more (b ∷ bs) more p rest e) ∙ ap (one_plus p) (on rest)
         ∙ ap (λ (l : List ℕ). record { packets = p ∷ ps ++ (parsed (l ++ more)).packets; ends = (parsed (l ++ more)).ends }) (sym behind))
-    go short e on = unread (is ∙ ap (λ (x : Read Packet (List ℕ)). parsed_by x parsed) e)
-    go refused e on = unread (is ∙ ap (λ (x : Read Packet (List ℕ)). parsed_by x parsed) e)
+    go (stop Stop.Short) e on = unread (is ∙ ap (λ (x : Read Packet (List ℕ)). parsed_by x parsed) e)
+    go (stop Stop.Refused) e on = unread (is ∙ ap (λ (x : Read Packet (List ℕ)). parsed_by x parsed) e)
 
 -- a batch that is packets to its empty end is their forms
 pub read_whole : (n : ℕ) (bs : List ℕ) → length bs ≤ n → number_of (parsed bs).ends ≡ 0 → form_bytes (parsed bs).packets ≡ length bs
@@ -84,9 +87,9 @@ read_whole (suc n) (b ∷ bs) h z = go (packet.read (b ∷ bs)) refl (λ l. read
         let less = shorter (b ∷ bs) p rest e in
         let none : number_of (parsed rest).ends ≡ 0 = subst (λ (x : Parsed). number_of x.ends ≡ 0) here z in
         ap (λ (x : Parsed). form_bytes x.packets) here ∙ omega (arith, less, whole rest (omega (arith, less, packet_at_least p)) none)
-    go short e whole =
+    go (stop Stop.Short) e whole =
         absurd (omega (arith, subst (λ (x : Parsed). number_of x.ends ≡ 0) (is ∙ ap (λ (x : Read Packet (List ℕ)). parsed_by x parsed) e) z))
-    go refused e whole =
+    go (stop Stop.Refused) e whole =
         absurd (omega (arith, subst (λ (x : Parsed). number_of x.ends ≡ 0) (is ∙ ap (λ (x : Read Packet (List ℕ)). parsed_by x parsed) e) z))
 
 -- what feeding both at once tells is what the two tell together
@@ -108,7 +111,7 @@ feed_goes_on s room first more e t t-is used used-is =
 
 -- what two calls did together is what one did
 pub record AsOne (r₁ r₂ r : FeedAnswer) (s₂ s o₁ o₂ o : List ℕ) : Type 0 where
-  pub refusal : r.refusal ≡ r₂.refusal
+  pub refusal : stop_number r.refusal ≡ stop_number r₂.refusal
   pub packets : r.packets ≡ r₁.packets + r₂.packets
   pub used : r.used ≡ r₁.used + r₂.used
   pub opened : r.opened ≡ r₁.opened + r₂.opened
@@ -191,7 +194,7 @@ in_two_pieces before first more room sound r₁ s₁ o₁ fed₁ r₂ s₂ o₂ 
 
 -- a piece that is not refused is taken whole
 pub nothing_left : (before first room : List ℕ) → Sound before → (r₁ : FeedAnswer) (s₁ o₁ : List ℕ) → Fed before first room r₁ s₁ o₁
-    → r₁.refusal ≡ 0 → r₁.used ≡ length first
+    → stop_number r₁.refusal ≡ 0 → r₁.used ≡ length first
 unfolding feed_bytes
 nothing_left before first room sound r₁ s₁ o₁ fed₁ z =
     let ps : List Packet = (parsed first).packets in
@@ -202,7 +205,7 @@ nothing_left before first room sound r₁ s₁ o₁ fed₁ z =
 
 -- so two batches, the first not refused, are the one that both make
 pub in_two_batches : (before first more room : List ℕ) → Sound before
-    → (r₁ : FeedAnswer) (s₁ o₁ : List ℕ) → Fed before first room r₁ s₁ o₁ → r₁.refusal ≡ 0
+    → (r₁ : FeedAnswer) (s₁ o₁ : List ℕ) → Fed before first room r₁ s₁ o₁ → stop_number r₁.refusal ≡ 0
     → (r₂ : FeedAnswer) (s₂ o₂ : List ℕ) → Fed s₁ more (drop r₁.bytes o₁) r₂ s₂ o₂
     → (r : FeedAnswer) (s o : List ℕ) → Fed before (first ++ more) room r s o
     → AsOne r₁ r₂ r s₂ s o₁ o₂ o
@@ -217,7 +220,7 @@ pub in_two_damaged : (before first more room : List ℕ) → (Sound before → �
     → (r₁ : FeedAnswer) (s₁ o₁ : List ℕ) → Fed before first room r₁ s₁ o₁
     → (r₂ : FeedAnswer) (s₂ o₂ : List ℕ) → Fed s₁ (drop r₁.used first ++ more) (drop r₁.bytes o₁) r₂ s₂ o₂
     → (r : FeedAnswer) (s o : List ℕ) → Fed before (first ++ more) room r s o
-    → NothingDone before room r₁.refusal r₁.records r₁.bytes s₁ o₁ × NothingDone before room r₂.refusal r₂.records r₂.bytes s₂ o₂
+    → NothingDone before room (stop_number r₁.refusal) r₁.records r₁.bytes s₁ o₁ × NothingDone before room (stop_number r₂.refusal) r₂.records r₂.bytes s₂ o₂
     × AsOne r₁ r₂ r s₂ s o₁ o₂ o
 in_two_damaged before first more room bad r₁ s₁ o₁ fed₁ r₂ s₂ o₂ fed₂ r s o fed =
     let (n₁, p₁, u₁, q₁) = fed₁.damaged bad in

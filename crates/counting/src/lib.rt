@@ -1,4 +1,4 @@
-// A packet counted in a slot's words, where they lie.
+//! A packet counted in a slot's words, where they lie.
 #![tactic(auto)]
 
 ghost use Rattle.std.specs.Prelude.{◌≡◌};
@@ -23,7 +23,7 @@ fn first_word(direction: Direction) -> usize
     }
 }
 
-// Counts a packet on slot i's record, in the words of the slot: those that both directions share, and those of its own direction.
+/// Counts a packet on slot i's record, in the words of the slot: those that both directions share, and those of its own direction.
 pub fn count_at(
     state: &mut [u8],
     capacity: usize,

@@ -1,97 +1,90 @@
-// Damage to the words of slot 0's two directions, each by itself.
-use crate::judge::{Tally, with_two, with_word};
-use crate::places::FIRST_RECORD;
-use listing::line::print;
+//! Damage to the words of slot 0's two directions, each by itself.
+use crate::places::{FIRST_RECORD, Memory, WORD, put_words};
+use crate::tally::Tally;
+use std::io;
 
-pub fn damaged(state: &[u8], tally: Tally) -> Tally {
-    let tally = one_way(state, tally, b"forward", 11, 3);
-    one_way(state, tally, b"reverse", 24, 2)
+// A direction of slot 0: where its words begin in the record, and how many packets it has.
+#[derive(Debug, Clone, Copy)]
+struct Direction {
+    name: &'static str,
+    first_word: u8,
+    packets: u8,
 }
 
-// The direction whose words begin with word `from` of the record, with its packets.
-fn one_way(state: &[u8], tally: Tally, whose: &[u8], from: u8, packets: u8) -> Tally {
-    let tally = sums(state, tally, whose, from);
-    let tally = lengths(state, tally, whose, from);
-    let most = packets as u64;
-    let tally = other(
-        state,
-        tally,
-        whose,
-        b" fin count as packets",
-        field(from, 4),
-        most,
-    );
-    let tally = control_flags(state, tally, whose, from, most + 1);
-    rare_flags(state, tally, whose, from, most + 1)
+const DIRECTIONS: [Direction; 2] = [
+    Direction {
+        name: "forward",
+        first_word: 11,
+        packets: 3,
+    },
+    Direction {
+        name: "reverse",
+        first_word: 24,
+        packets: 2,
+    },
+];
+
+// Names, words of the direction, and what is put there and behind it. The range of lengths is from 54 to 60, as words 55 and 61.
+const CHANGES: [(&str, u8, &[u64]); 8] = [
+    ("packets 0", 0, &[0]),
+    ("octets 0", 1, &[0]),
+    ("length range missing", 2, &[0, 0]),
+    ("length minimum alone", 3, &[0]),
+    ("length maximum alone", 2, &[0]),
+    ("length minimum above maximum", 2, &[62]),
+    ("length word 4294967296", 3, &[0x1_0000_0000]),
+    ("length word 4294967297", 3, &[0x1_0000_0001]),
+];
+
+// The flags, whose counts are the words from this one on.
+const FIRST_FLAG: u8 = 4;
+
+const FLAGS: [&str; 9] = [
+    "fin count above packets",
+    "syn count above packets",
+    "rst count above packets",
+    "psh count above packets",
+    "ack count above packets",
+    "urg count above packets",
+    "ece count above packets",
+    "cwr count above packets",
+    "ns count above packets",
+];
+
+pub fn damage(rt: &impl Print, state: &Memory, tally: &mut Tally) -> io::Result<()> {
+    for direction in DIRECTIONS {
+        direction.damage(rt, state, tally)?;
+    }
+    Ok(())
 }
 
-// Word k of the direction.
-fn field(from: u8, k: u8) -> usize {
-    FIRST_RECORD + 8 * (from as usize + k as usize)
-}
+impl Direction {
+    fn damage(&self, rt: &impl Print, state: &Memory, tally: &mut Tally) -> io::Result<()> {
+        for (name, word, words) in CHANGES {
+            self.judge(rt, state, tally, name, word, words)?;
+        }
+        let most = u64::from(self.packets);
+        let name = "fin count as packets";
+        self.judge(rt, state, tally, name, FIRST_FLAG, &[most])?;
+        for (name, word) in FLAGS.into_iter().zip(FIRST_FLAG..=12) {
+            self.judge(rt, state, tally, name, word, &[most + 1])?;
+        }
+        Ok(())
+    }
 
-fn other(state: &[u8], tally: Tally, whose: &[u8], name: &[u8], at: usize, word: u64) -> Tally {
-    print(tally.stdout, whose);
-    with_word(state, tally, name, at, word)
-}
-
-fn sums(state: &[u8], tally: Tally, whose: &[u8], from: u8) -> Tally {
-    let tally = other(state, tally, whose, b" packets 0", field(from, 0), 0);
-    other(state, tally, whose, b" octets 0", field(from, 1), 0)
-}
-
-// The range is from 54 to 60, as words 55 and 61.
-fn lengths(state: &[u8], tally: Tally, whose: &[u8], from: u8) -> Tally {
-    let least = field(from, 2);
-    let greatest = field(from, 3);
-    print(tally.stdout, whose);
-    let tally = with_two(state, tally, b" length range missing", least, 0, 0);
-    let tally = other(state, tally, whose, b" length minimum alone", greatest, 0);
-    let tally = other(state, tally, whose, b" length maximum alone", least, 0);
-    let tally = other(
-        state,
-        tally,
-        whose,
-        b" length minimum above maximum",
-        least,
-        62,
-    );
-    let tally = other(
-        state,
-        tally,
-        whose,
-        b" length word 4294967296",
-        greatest,
-        0x1_0000_0000,
-    );
-    other(
-        state,
-        tally,
-        whose,
-        b" length word 4294967297",
-        greatest,
-        0x1_0000_0001,
-    )
-}
-
-// One flag's count is more than there are packets.
-fn above(state: &[u8], tally: Tally, whose: &[u8], flag: &[u8], at: usize, count: u64) -> Tally {
-    print(tally.stdout, whose);
-    print(tally.stdout, flag);
-    with_word(state, tally, b" count above packets", at, count)
-}
-
-fn control_flags(state: &[u8], tally: Tally, whose: &[u8], from: u8, count: u64) -> Tally {
-    let tally = above(state, tally, whose, b" fin", field(from, 4), count);
-    let tally = above(state, tally, whose, b" syn", field(from, 5), count);
-    let tally = above(state, tally, whose, b" rst", field(from, 6), count);
-    let tally = above(state, tally, whose, b" psh", field(from, 7), count);
-    above(state, tally, whose, b" ack", field(from, 8), count)
-}
-
-fn rare_flags(state: &[u8], tally: Tally, whose: &[u8], from: u8, count: u64) -> Tally {
-    let tally = above(state, tally, whose, b" urg", field(from, 9), count);
-    let tally = above(state, tally, whose, b" ece", field(from, 10), count);
-    let tally = above(state, tally, whose, b" cwr", field(from, 11), count);
-    above(state, tally, whose, b" ns", field(from, 12), count)
+    fn judge(
+        &self,
+        rt: &impl Print,
+        state: &Memory,
+        tally: &mut Tally,
+        name: &str,
+        word: u8,
+        words: &[u64],
+    ) -> io::Result<()> {
+        let word = usize::from(self.first_word) + usize::from(word);
+        let mut copy = *state;
+        put_words(&mut copy, FIRST_RECORD + word * WORD, words);
+        let direction = self.name;
+        tally.judge(rt, format_args!("{direction} {name}"), &copy)
+    }
 }

@@ -1,62 +1,69 @@
-// Damages each field of a state in turn, and shows which damage the check of a state refuses.
-//
-// A state of capacity 3 is opened, and a conversation and a lone packet are put into slots 0 and 2. Then for each damage a copy is
-// changed and checked, and a line printed: what was changed, and 3 where the copy is not sound, else 0. Changes that leave it sound
-// stand beside those that do not.
+//! Damages each field of a state in turn, and shows which damage the check of a state refuses.
+//!
+//! A state of capacity 3 is opened, and a conversation and a lone packet are put into slots 0 and 2. Then for each damage a copy is
+//! changed and checked, and a line printed: what was changed, and 3 where the copy is not sound, else 0. Changes that leave it sound
+//! stand beside those that do not.
 #![tactic(auto)]
 
+mod damage;
 mod direction;
 mod entries;
 mod flows;
 mod form;
 mod header;
-mod judge;
 mod keys;
 mod pairs;
 mod places;
 mod record;
 mod slot;
+mod tally;
 mod together;
 
 use flow::time::{Millis, TimeResolution};
-use judge::Tally;
-use state::opening::{Opening, open};
-use std::io::Stdout;
+use forms::refusal::Refusal;
+use places::{CAPACITY, MEMORY_BYTES, Memory};
+use state::opening::open;
+use std::io;
 use std::process::ExitCode;
+use tally::{Tally, show};
 
 fn main(rt: HostRuntime) -> ExitCode {
-    let stdout = rt.stdout();
-    let mut memory = [165u8; places::MEMORY_BYTES];
-    let well = match open(
-        &mut memory,
-        places::CAPACITY,
-        Millis(1000),
-        TimeResolution::Microseconds,
-    ) {
-        Opening::Opened => show(stdout, &mut memory),
-        Opening::Capacity => listing::line::print(stdout, b"not opened: capacity\n"),
-        Opening::Memory => listing::line::print(stdout, b"not opened: memory\n"),
-    };
-    if well {
-        return ExitCode::SUCCESS;
+    match run(&rt) {
+        Ok(()) => ExitCode::SUCCESS,
+        Err(_) => ExitCode::FAILURE,
     }
-    ExitCode::FAILURE
 }
 
-fn show(stdout: Stdout, memory: &mut [u8]) -> bool {
-    flows::put_flows(memory);
-    judge::stands(stdout, memory, b"as it stands");
-    judge::print_tally(damaged(stdout, memory))
+// An error says that a line cannot be written.
+fn run(rt: &impl Print) -> io::Result<()> {
+    let mut memory = [165u8; MEMORY_BYTES];
+    let opening = open(
+        &mut memory,
+        CAPACITY,
+        Millis(1000),
+        TimeResolution::Microseconds,
+    );
+    match opening {
+        Ok(()) => {
+            flows::put_flows(&mut memory);
+            damage_all(rt, &memory)
+        }
+        Err(Refusal::Capacity) => rt.println("not opened: capacity"),
+        Err(_) => rt.println("not opened: memory"),
+    }
 }
 
 // All damages, kind by kind.
-fn damaged(stdout: Stdout, state: &[u8]) -> Tally {
-    let tally = header::damaged(state, Tally::new(stdout));
-    let tally = slot::damaged(state, tally);
-    let tally = form::damaged(state, tally);
-    let tally = record::damaged(state, tally);
-    let tally = direction::damaged(state, tally);
-    let tally = together::damaged(state, tally);
-    let tally = pairs::damaged(state, tally);
-    entries::damaged(state, tally)
+fn damage_all(rt: &impl Print, state: &Memory) -> io::Result<()> {
+    show(rt, "as it stands", state)?;
+    let mut tally = Tally::default();
+    header::damage(rt, state, &mut tally)?;
+    slot::damage(rt, state, &mut tally)?;
+    form::damage(rt, state, &mut tally)?;
+    record::damage(rt, state, &mut tally)?;
+    direction::damage(rt, state, &mut tally)?;
+    together::damage(rt, state, &mut tally)?;
+    pairs::damage(rt, state, &mut tally)?;
+    entries::damage(rt, state, &mut tally)?;
+    rt.println(tally)
 }

@@ -1,63 +1,64 @@
-// Damage to the words of slot 0's record that belong to no direction. An optional's word is 0 for absent, else its value plus 1.
-use crate::judge::{Tally, with_two, with_word};
-use crate::places::first_word;
+//! Damage to the words of slot 0's record that belong to no direction. An optional's word is 0 for absent, else its value plus 1.
+use crate::damage::Change::Words;
+use crate::damage::Damage;
+use crate::places::{FIRST_RECORD, Memory, WORD};
+use crate::tally::Tally;
+use std::io;
 
-pub fn damaged(state: &[u8], tally: Tally) -> Tally {
-    let tally = times(state, tally);
-    let tally = kinds(state, tally);
-    let tally = ttl(state, tally);
-    let tally = network(state, tally);
-    capture(state, tally)
+pub fn damage(rt: &impl Print, state: &Memory, tally: &mut Tally) -> io::Result<()> {
+    tally.judge_each(rt, state, &DAMAGES)
 }
 
-// Start 1000 and end 5000. The queue's entry is the end + T.
-fn times(state: &[u8], tally: Tally) -> Tally {
-    let tally = with_word(state, tally, b"start at the end", first_word(0), 5000);
-    let tally = with_word(state, tally, b"start after the end", first_word(0), 5001);
-    let tally = with_word(state, tally, b"end one later", first_word(1), 5001);
-    with_word(state, tally, b"end one earlier", first_word(1), 4999)
-}
+// The words, in their order.
+const START: usize = FIRST_RECORD;
 
-fn kinds(state: &[u8], tally: Tally) -> Tally {
-    let tally = with_word(state, tally, b"start state 2", first_word(2), 2);
-    let tally = with_word(state, tally, b"start state 3", first_word(2), 3);
-    let tally = with_word(state, tally, b"record resolution 1", first_word(3), 1);
-    with_word(state, tally, b"record resolution 2", first_word(3), 2)
-}
+const END: usize = FIRST_RECORD + WORD;
 
-fn ttl(state: &[u8], tally: Tally) -> Tally {
-    let tally = with_two(state, tally, b"TTL absent", first_word(4), 0, 0);
-    let tally = with_word(state, tally, b"TTL minimum alone", first_word(5), 0);
-    let tally = with_word(state, tally, b"TTL maximum alone", first_word(4), 0);
-    let tally = with_word(
-        state,
-        tally,
-        b"TTL minimum above maximum",
-        first_word(4),
-        66,
-    );
-    let tally = with_word(state, tally, b"TTL word 256", first_word(5), 256);
-    with_word(state, tally, b"TTL word 257", first_word(5), 257)
-}
+const START_STATE: usize = FIRST_RECORD + 2 * WORD;
 
-fn network(state: &[u8], tally: Tally) -> Tally {
-    let tally = with_word(state, tally, b"DSCP word 256", first_word(6), 256);
-    let tally = with_word(state, tally, b"DSCP word 257", first_word(6), 257);
-    let tally = with_word(state, tally, b"ECN word 256", first_word(7), 256);
-    let tally = with_word(state, tally, b"ECN word 257", first_word(7), 257);
-    let tally = with_word(state, tally, b"ICMP word 65536", first_word(8), 65536);
-    with_word(state, tally, b"ICMP word 65537", first_word(8), 65537)
-}
+const RESOLUTION: usize = FIRST_RECORD + 3 * WORD;
 
-fn capture(state: &[u8], tally: Tally) -> Tally {
-    let tally = with_word(state, tally, b"captured octets 0", first_word(9), 0);
-    let tally = with_word(
-        state,
-        tally,
-        b"captured octets at the top",
-        first_word(9),
-        0xffff_ffff_ffff_ffff,
-    );
-    let tally = with_word(state, tally, b"truncated 1", first_word(10), 1);
-    with_word(state, tally, b"truncated 2", first_word(10), 2)
-}
+const TTL_MINIMUM: usize = FIRST_RECORD + 4 * WORD;
+
+const TTL_MAXIMUM: usize = FIRST_RECORD + 5 * WORD;
+
+const DSCP: usize = FIRST_RECORD + 6 * WORD;
+
+const ECN: usize = FIRST_RECORD + 7 * WORD;
+
+const ICMP: usize = FIRST_RECORD + 8 * WORD;
+
+const CAPTURED_OCTETS: usize = FIRST_RECORD + 9 * WORD;
+
+const TRUNCATED: usize = FIRST_RECORD + 10 * WORD;
+
+const DAMAGES: [Damage; 24] = [
+    // Start 1000 and end 5000. The queue's entry is the end + T.
+    Damage("start at the end", &[Words(START, &[5000])]),
+    Damage("start after the end", &[Words(START, &[5001])]),
+    Damage("end one later", &[Words(END, &[5001])]),
+    Damage("end one earlier", &[Words(END, &[4999])]),
+    Damage("start state 2", &[Words(START_STATE, &[2])]),
+    Damage("start state 3", &[Words(START_STATE, &[3])]),
+    Damage("record resolution 1", &[Words(RESOLUTION, &[1])]),
+    Damage("record resolution 2", &[Words(RESOLUTION, &[2])]),
+    Damage("TTL absent", &[Words(TTL_MINIMUM, &[0, 0])]),
+    Damage("TTL minimum alone", &[Words(TTL_MAXIMUM, &[0])]),
+    Damage("TTL maximum alone", &[Words(TTL_MINIMUM, &[0])]),
+    Damage("TTL minimum above maximum", &[Words(TTL_MINIMUM, &[66])]),
+    Damage("TTL word 256", &[Words(TTL_MAXIMUM, &[256])]),
+    Damage("TTL word 257", &[Words(TTL_MAXIMUM, &[257])]),
+    Damage("DSCP word 256", &[Words(DSCP, &[256])]),
+    Damage("DSCP word 257", &[Words(DSCP, &[257])]),
+    Damage("ECN word 256", &[Words(ECN, &[256])]),
+    Damage("ECN word 257", &[Words(ECN, &[257])]),
+    Damage("ICMP word 65536", &[Words(ICMP, &[65536])]),
+    Damage("ICMP word 65537", &[Words(ICMP, &[65537])]),
+    Damage("captured octets 0", &[Words(CAPTURED_OCTETS, &[0])]),
+    Damage(
+        "captured octets at the top",
+        &[Words(CAPTURED_OCTETS, &[u64::MAX])],
+    ),
+    Damage("truncated 1", &[Words(TRUNCATED, &[1])]),
+    Damage("truncated 2", &[Words(TRUNCATED, &[2])]),
+];

@@ -1,73 +1,52 @@
-// Damage to a direction without packets, in slot 2, and to the sums over both directions, in slot 0.
-use crate::judge::{Tally, judge, with_two, with_word};
-use crate::places::{MEMORY_BYTES, first_word, put_words, second_word};
-use listing::line::put;
+//! Damage to a direction without packets, in slot 2, and to the sums over both directions, in slot 0.
+use crate::damage::Change::Words;
+use crate::damage::Damage;
+use crate::places::{FIRST_RECORD, Memory, SECOND_RECORD, WORD};
+use crate::tally::Tally;
+use std::io;
 
-pub fn damaged(state: &[u8], tally: Tally) -> Tally {
-    let tally = no_packet(state, tally);
-    let tally = without_packets(state, tally);
-    sums(state, tally)
+pub fn damage(rt: &impl Print, state: &Memory, tally: &mut Tally) -> io::Result<()> {
+    tally.judge_each(rt, state, &DAMAGES)
 }
 
-// The one packet of slot 2 is taken out of every count.
-fn no_packet(state: &[u8], tally: Tally) -> Tally {
-    let mut copy = [0u8; MEMORY_BYTES];
-    put(&mut copy, 0, state);
-    let nothing = [0u64; 4];
-    put_words(&mut copy, second_word(11), &nothing);
-    judge(&copy, tally, b"no packet at all")
-}
+// The direction of slot 2 that has packets.
+const SECOND_FORWARD: usize = SECOND_RECORD + 11 * WORD;
 
-// The direction of slot 2 that has no packets.
-fn without_packets(state: &[u8], tally: Tally) -> Tally {
-    let tally = with_word(state, tally, b"octets without packets", second_word(25), 1);
-    let tally = with_two(
-        state,
-        tally,
-        b"length range without packets",
-        second_word(26),
-        61,
-        61,
-    );
-    with_word(
-        state,
-        tally,
-        b"flag count without packets",
-        second_word(28),
-        1,
-    )
-}
+// The octets, the range of lengths and a flag's count of the direction of slot 2 that has no packets.
+const NO_OCTETS: usize = SECOND_RECORD + 25 * WORD;
 
-// The reverse direction has 2 packets and 114 octets.
-fn sums(state: &[u8], tally: Tally) -> Tally {
-    let packets = first_word(11);
-    let octets = first_word(12);
-    let tally = with_word(
-        state,
-        tally,
-        b"packets together at the top",
-        packets,
-        18446744073709551613,
-    );
-    let tally = with_word(
-        state,
-        tally,
-        b"packets together past the top",
-        packets,
-        18446744073709551614,
-    );
-    let tally = with_word(
-        state,
-        tally,
-        b"octets together at the top",
-        octets,
-        18446744073709551501,
-    );
-    with_word(
-        state,
-        tally,
-        b"octets together past the top",
-        octets,
-        18446744073709551502,
-    )
-}
+const NO_LENGTHS: usize = SECOND_RECORD + 26 * WORD;
+
+const NO_FLAG: usize = SECOND_RECORD + 28 * WORD;
+
+// The packets and octets of the forward direction of slot 0. The reverse one has 2 packets and 114 octets.
+const PACKETS: usize = FIRST_RECORD + 11 * WORD;
+
+const OCTETS: usize = FIRST_RECORD + 12 * WORD;
+
+const DAMAGES: [Damage; 8] = [
+    // The one packet of slot 2 is taken out of every count.
+    Damage("no packet at all", &[Words(SECOND_FORWARD, &[0, 0, 0, 0])]),
+    Damage("octets without packets", &[Words(NO_OCTETS, &[1])]),
+    Damage(
+        "length range without packets",
+        &[Words(NO_LENGTHS, &[61, 61])],
+    ),
+    Damage("flag count without packets", &[Words(NO_FLAG, &[1])]),
+    Damage(
+        "packets together at the top",
+        &[Words(PACKETS, &[u64::MAX - 2])],
+    ),
+    Damage(
+        "packets together past the top",
+        &[Words(PACKETS, &[u64::MAX - 1])],
+    ),
+    Damage(
+        "octets together at the top",
+        &[Words(OCTETS, &[u64::MAX - 114])],
+    ),
+    Damage(
+        "octets together past the top",
+        &[Words(OCTETS, &[u64::MAX - 113])],
+    ),
+];

@@ -1,4 +1,5 @@
 -- What the rules answer to the packet, by what was decided. Assumes nothing.
+use Rattle.forms.specs.Refusals.{stop_number}
 use mathlib.Core.Path.{◌≡◌, refl, sym, ap, ◌∙◌}
 use mathlib.Core.Bool.{Bool, true, false, not, cond}
 use mathlib.Core.List.{List}
@@ -62,12 +63,12 @@ module _ {S : Settings} {s : List ℕ} {w : ℕ} {p : Packet} {r : Decision} (h 
       ∙ ap (λ (fs : List (Flow engine)). steps1234 engine S room w (swept engine S w e.flows) p fs (reused engine p fs))
       (ap (staying engine S w) flows ∙ sym (swept_meaning S s w))
 
-  pub answer_taken : r.refusal ≡ 0 → one_packet engine S room p e ≡ taken
+  pub answer_taken : stop_number r.refusal ≡ 0 → one_packet engine S room p e ≡ taken
   answer_taken z =
       answer_is
-      ∙ accepted (is_full engine S (left_flows p table) (taker_on p table)) (is_spent engine p (taker_on p table)) r.refusal h.refusal taken z
+      ∙ accepted (is_full engine S (left_flows p table) (taker_on p table)) (is_spent engine p (taker_on p table)) (stop_number r.refusal) h.refusal taken z
 
-  pub answer_refused : (r.refusal ≡ 0 → ⊥) → (x : Refusal) × (one_packet engine S room p e ≡ refused x) × (number_of x ≡ r.refusal)
+  pub answer_refused : ((stop_number r.refusal) ≡ 0 → ⊥) → (x : Refusal) × (one_packet engine S room p e ≡ refused x) × (number_of x ≡ stop_number r.refusal)
   answer_refused n =
-      let (x, is, number) = refusing (is_full engine S (left_flows p table) (taker_on p table)) (is_spent engine p (taker_on p table)) r.refusal h.refusal taken n in
+      let (x, is, number) = refusing (is_full engine S (left_flows p table) (taker_on p table)) (is_spent engine p (taker_on p table)) (stop_number r.refusal) h.refusal taken n in
       (x, answer_is ∙ is, number)

@@ -1,15 +1,15 @@
 -- What is decided is what the rules say. Assumes nothing.
+use Rattle.forms.specs.Refusals.{stop_number}
+use Rattle.std.specs.Prelude.{None, Option, Some, is_some}
 use mathlib.Core.Path.{◌≡◌, refl, sym, ap, ◌∙◌, subst}
 use mathlib.Core.Bool.{Bool, true, false, not, cond, ◌&&◌}
 use mathlib.Core.List.{List}
-use mathlib.Core.Option.{Option}
 use Prim.Native.Nat.{ℕ, ◌+◌, ◌^◌}
 use native.Mathlib.Omega.{arith}
 use lib.Dec.{eqb, leb}
 use lib.ListN.{length}
 use borrow.Author.Tests.{eqb-true, eqb-false, eq-eqb, ne_eqb, le-leb, lt-leb, lt-ltb}
 use Rattle.slots.specs.Table.{slot, slots}
-use Rattle.slots.specs.declared.Found.{Found}
 use Rattle.flow.specs.Counting.{opened_of, counted_of, has_room}
 use Rattle.flow.specs.declared.time.TimeResolution.{TimeResolution}
 use Rattle.flow.specs.declared.record.Direction.{Direction}
@@ -23,7 +23,6 @@ use Rattle.rules.specs.Engine.{engine, both_fins}
 use Rattle.rules.specs.Slots.{occupied}
 use Rattle.state.specs.Slot.{flow_in}
 use Rattle.state.specs.State.{SoundFlows}
-use Rattle.state.specs.SlotTest.{found_it}
 use Rattle.decide.specs.declared.choose.Choice.{Choice}
 use Rattle.decide.specs.declared.decide.Decision.{Decision}
 use Rattle.decide.specs.Decide.{staying_slots, ended_flow, left_flows, taker_on, held_before, swept_slots, DecideAsked, Chosen, Decided}
@@ -33,9 +32,9 @@ use Rattle.decide.proofs.Chosen.{ended_flow_lem, ended_none, takes_old, takes_ne
 -- ## Steps 3 and 4 by the slot that takes the packet
 
 -- the taker by its slot
-abbrev taker_at : List ℕ → Found → Direction → Taker engine
-taker_at s (Found.At i) d = old d (flow_in (slot s i))
-taker_at s Found.Nothing d = new
+abbrev taker_at : List ℕ → Option ℕ → Direction → Taker engine
+taker_at s (Some i) d = old d (flow_in (slot s i))
+taker_at s None d = new
 
 -- a record that opens has room for its packet
 opened_fits : (resolution : TimeResolution) (protocol : ℕ) (p : PacketFacts) → FactsInRange p → has_room (opened_of resolution protocol p) p ≡ true
@@ -47,31 +46,31 @@ opened_fits resolution protocol p h =
     && lt-ltb (0 + p.captured_octets) (2 ^ 64) (omega (arith, h.captured)) t
 
 module _ (S : Settings) (s : List ℕ) (p : Packet) (d : Direction) where
-  before_is : (f : Found) → record_before s f S.resolution p ≡ held_before S p (taker_at s f d)
+  before_is : (f : Option ℕ) → record_before s f S.resolution p ≡ held_before S p (taker_at s f d)
   unfolding flow_in
-  before_is (Found.At i) = refl
-  before_is Found.Nothing = refl
+  before_is (Some i) = refl
+  before_is None = refl
 
   -- a flow opens forward
-  held_is : (f : Found) → (f ≡ Found.Nothing → d ≡ Forward) → counted_of (record_before s f S.resolution p) d p.facts ≡ (taking engine S p (taker_at s f d)).held
+  held_is : (f : Option ℕ) → (f ≡ None → d ≡ Forward) → counted_of (record_before s f S.resolution p) d p.facts ≡ (taking engine S p (taker_at s f d)).held
   unfolding flow_in
-  held_is (Found.At i) forward = refl
-  held_is Found.Nothing forward = ap (λ (x : Direction). counted_of (opened_of S.resolution p.key.protocol p.facts) x p.facts) (forward refl)
+  held_is (Some i) forward = refl
+  held_is None forward = ap (λ (x : Direction). counted_of (opened_of S.resolution p.key.protocol p.facts) x p.facts) (forward refl)
 
-  closed_is : (f : Found) → both_fins (record_before s f S.resolution p) ≡ was_closed engine (taker_at s f d)
+  closed_is : (f : Option ℕ) → both_fins (record_before s f S.resolution p) ≡ was_closed engine (taker_at s f d)
   unfolding flow_in opened_of
-  closed_is (Found.At i) = refl
-  closed_is Found.Nothing = refl
+  closed_is (Some i) = refl
+  closed_is None = refl
 
   -- a flow that opens is never Spent
-  spent_is : (f : Found) → FactsInRange p.facts → not (has_room (record_before s f S.resolution p) p.facts) ≡ is_spent engine p (taker_at s f d)
+  spent_is : (f : Option ℕ) → FactsInRange p.facts → not (has_room (record_before s f S.resolution p) p.facts) ≡ is_spent engine p (taker_at s f d)
   unfolding flow_in
-  spent_is (Found.At i) h = refl
-  spent_is Found.Nothing h = ap not (opened_fits S.resolution p.key.protocol p.facts h)
+  spent_is (Some i) h = refl
+  spent_is None h = ap not (opened_fits S.resolution p.key.protocol p.facts h)
 
-  opens_is : (f : Found) → not (found_it f) ≡ opens engine (taker_at s f d)
-  opens_is (Found.At i) = refl
-  opens_is Found.Nothing = refl
+  opens_is : (f : Option ℕ) → not (is_some f) ≡ opens engine (taker_at s f d)
+  opens_is (Some i) = refl
+  opens_is None = refl
 
 -- ## Full
 
@@ -104,9 +103,9 @@ module _ (S : Settings) (s : List ℕ) (w : ℕ) (p : Packet) (room : ℕ) (choi
   taker_is : taker_at s choice.slot choice.direction ≡ t
   taker_is = go choice.slot refl
     where
-      go : (f : Found) → choice.slot ≡ f → taker_at s choice.slot choice.direction ≡ t
-      go (Found.At i) e = ap (λ (x : Found). taker_at s x choice.direction) e ∙ sym (takes_old h i e)
-      go Found.Nothing e = ap (λ (x : Found). taker_at s x choice.direction) e ∙ sym (takes_new h e)
+      go : (f : Option ℕ) → choice.slot ≡ f → taker_at s choice.slot choice.direction ≡ t
+      go (Some i) e = ap (λ (x : Option ℕ). taker_at s x choice.direction) e ∙ sym (takes_old h i e)
+      go None e = ap (λ (x : Option ℕ). taker_at s x choice.direction) e ∙ sym (takes_new h e)
 
   held_before_lem : before ≡ held_before S p t
   held_before_lem = before_is S s p choice.direction choice.slot ∙ ap (held_before S p) taker_is
@@ -115,16 +114,16 @@ module _ (S : Settings) (s : List ℕ) (w : ℕ) (p : Packet) (room : ℕ) (choi
   held_after =
       held_is S s p choice.direction choice.slot h.opens_forward ∙ ap (λ (x : Taker engine). (taking engine S p x).held) taker_is
 
-  full_told : (not (found_it choice.slot) && eqb (room + freed_by choice.ended) 0) ≡ is_full engine S (left_flows p (swept_slots S s w)) t
+  full_told : (not (is_some choice.slot) && eqb (room + freed_by choice.ended) 0) ≡ is_full engine S (left_flows p (swept_slots S s w)) t
   full_told =
       λ i.
       (opens_is S s p choice.direction choice.slot ∙ ap (opens engine) taker_is) i
       && full_is (length (left_flows p (swept_slots S s w))) (room + freed_by choice.ended) S.capacity (omega (arith, left_length h flows, room_is)) i
 
-  refusal_told : r.refusal ≡ cond (is_full engine S (left_flows p (swept_slots S s w)) t) 5 (cond (is_spent engine p t) 6 0)
+  refusal_told : stop_number r.refusal ≡ cond (is_full engine S (left_flows p (swept_slots S s w)) t) 5 (cond (is_spent engine p t) 6 0)
   refusal_told =
       made.refusal
-      ∙ refusal_same (not (found_it choice.slot) && eqb (room + freed_by choice.ended) 0) (has_room before p.facts)
+      ∙ refusal_same (not (is_some choice.slot) && eqb (room + freed_by choice.ended) 0) (has_room before p.facts)
       ∙ (λ i.
       cond (full_told i) 5
       (cond ((spent_is S s p choice.direction choice.slot in_range.facts ∙ ap (is_spent engine p) taker_is) i) 6 0))
@@ -133,33 +132,33 @@ module _ (S : Settings) (s : List ℕ) (w : ℕ) (p : Packet) (room : ℕ) (choi
   unfolding flow_in
   name_told = made.name ∙ go choice.slot refl ∙ ap (λ (x : Taker engine). (taking engine S p x).name) taker_is
     where
-      go : (f : Found) → choice.slot ≡ f → name_by p.key choice.direction ≡ (taking engine S p (taker_at s choice.slot choice.direction)).name
-      go (Found.At i) e =
+      go : (f : Option ℕ) → choice.slot ≡ f → name_by p.key choice.direction ≡ (taking engine S p (taker_at s choice.slot choice.direction)).name
+      go (Some i) e =
           name_old h flows i e in_range.key
-          ∙ sym (ap (λ (x : Found). (taking engine S p (taker_at s x choice.direction)).name) e)
-      go Found.Nothing e =
+          ∙ sym (ap (λ (x : Option ℕ). (taking engine S p (taker_at s x choice.direction)).name) e)
+      go None e =
           ap (name_by p.key) (h.opens_forward e)
-          ∙ sym (ap (λ (x : Found). (taking engine S p (taker_at s x choice.direction)).name) e)
+          ∙ sym (ap (λ (x : Option ℕ). (taking engine S p (taker_at s x choice.direction)).name) e)
 
-  reason_told : ending_by (found_it choice.ended) (engine.rst p) (both_fins before) ≡ ending engine (ended_flow p (swept_slots S s w)) p t
-  reason_told = ap (ending_by (found_it choice.ended) (engine.rst p)) closed ∙ go choice.ended refl
+  reason_told : ending_by (is_some choice.ended) (engine.rst p) (both_fins before) ≡ ending engine (ended_flow p (swept_slots S s w)) p t
+  reason_told = ap (ending_by (is_some choice.ended) (engine.rst p)) closed ∙ go choice.ended refl
     where
       closed : both_fins before ≡ was_closed engine t
       closed = closed_is S s p choice.direction choice.slot ∙ ap (was_closed engine) taker_is
 
-      go : (e : Found) → choice.ended ≡ e
-          → ending_by (found_it choice.ended) (engine.rst p) (was_closed engine t) ≡ ending engine (ended_flow p (swept_slots S s w)) p t
-      go (Found.At i) e =
-          ap (λ (x : Found). ending_by (found_it x) (engine.rst p) (was_closed engine t)) e
+      go : (e : Option ℕ) → choice.ended ≡ e
+          → ending_by (is_some choice.ended) (engine.rst p) (was_closed engine t) ≡ ending engine (ended_flow p (swept_slots S s w)) p t
+      go (Some i) e =
+          ap (λ (x : Option ℕ). ending_by (is_some x) (engine.rst p) (was_closed engine t)) e
           ∙ sym (ap (λ (o : Option (Flow engine)). ending engine o p t) (ended_flow_lem h i e))
-      go Found.Nothing e =
-          ap (λ (x : Found). ending_by (found_it x) (engine.rst p) (was_closed engine t)) e
+      go None e =
+          ap (λ (x : Option ℕ). ending_by (is_some x) (engine.rst p) (was_closed engine t)) e
           ∙ sym (ap (λ (o : Option (Flow engine)). ending engine o p t) (ended_none h e))
 
   chosen_told : Chosen s S.capacity S.T S.L w p r.ended r.slot choice.direction
   chosen_told =
-      subst (λ (x : Found). Chosen s S.capacity S.T S.L w p x r.slot choice.direction) (sym made.ended)
-      (subst (λ (x : Found). Chosen s S.capacity S.T S.L w p choice.ended x choice.direction) (sym made.slot) h)
+      subst (λ (x : Option ℕ). Chosen s S.capacity S.T S.L w p x r.slot choice.direction) (sym made.ended)
+      (subst (λ (x : Option ℕ). Chosen s S.capacity S.T S.L w p choice.ended x choice.direction) (sym made.slot) h)
 
   pub decided : Decided S s w p r
   decided = record {
@@ -169,17 +168,17 @@ module _ (S : Settings) (s : List ℕ) (w : ℕ) (p : Packet) (room : ℕ) (choi
     name = name_told;
     record_is = λ z.
         made.record_is
-        ∙ ap (λ (b : Bool). cond b (counted_of before choice.direction p.facts) before) (eq-eqb r.refusal 0 z)
+        ∙ ap (λ (b : Bool). cond b (counted_of before choice.direction p.facts) before) (eq-eqb (stop_number r.refusal) 0 z)
         ∙ held_after;
     record_kept = λ n.
         made.record_is
-        ∙ ap (λ (b : Bool). cond b (counted_of before choice.direction p.facts) before) (ne_eqb r.refusal 0 n)
+        ∙ ap (λ (b : Bool). cond b (counted_of before choice.direction p.facts) before) (ne_eqb (stop_number r.refusal) 0 n)
         ∙ held_before_lem;
     reason = made.reason ∙ reason_told;
   }
 
 -- what steps 3 and 4 ask
-pub settle_asked : (s : List ℕ) (c T L w : ℕ) (index : List ℕ) (p : Packet) (bytes : List ℕ) (room : ℕ) {ended found : Found} {d : Direction}
+pub settle_asked : (s : List ℕ) (c T L w : ℕ) (index : List ℕ) (p : Packet) (bytes : List ℕ) (room : ℕ) {ended found : Option ℕ} {d : Direction}
     → DecideAsked s c index p bytes → length (occupied engine (staying_slots T L w (slots s c))) + room ≡ c → Chosen s c T L w p ended found d
     → SettleAsked s room p found
 settle_asked s c T L w index p bytes room ask room_is h = record {

@@ -1,11 +1,11 @@
 -- A packet whose key is plain: what its searches ask, and what is chosen. Assumes nothing.
+use Rattle.std.specs.Prelude.{Option, is_some}
 use mathlib.Core.Path.{◌≡◌, sym}
 use mathlib.Core.Bool.{Bool, true, not, ◌||◌}
 use mathlib.Core.List.{List}
 use Prim.Native.Nat.{ℕ, ◌-◌, ◌≤◌}
 use lib.ListN.{length, take, drop}
 use Rattle.memory.specs.Bytes.{patch}
-use Rattle.slots.specs.declared.Found.{Found}
 use Rattle.key.specs.Key.{reversed_key}
 use Rattle.flow.specs.declared.record.PacketFacts.{PacketFacts}
 use Rattle.wire.specs.declared.packet.Packet.{Packet}
@@ -13,7 +13,7 @@ use Rattle.plain.specs.Plain.{key_read}
 use Rattle.plain.specs.PlainLaws.{plain_hash_lem, plain_two_way, plain_inside, plain_order, plain_bytes_lem, turned_length}
 use Rattle.plain.specs.declared.Plain.{Plain}
 use Rattle.rules.specs.Engine.{engine, key_bytes}
-use Rattle.state.specs.SlotTest.{found_it, FrontWritten, front_fits}
+use Rattle.state.specs.SlotTest.{FrontWritten, front_fits}
 use Rattle.decide.specs.declared.choose.Choice.{Choice}
 use Rattle.decide.specs.Search.{SearchAsked, FoundStaying}
 use Rattle.decide.specs.Choose.{choice_at, TurnedIf}
@@ -44,7 +44,7 @@ module _ (s : List ℕ) (c : ℕ) (index batch : List ℕ) (from : ℕ) (key : P
           turned_asked s c index (key_read batch from) key.hash before buffer (key.next - from) bytes turned_front lies ask.search
           ask.in_range
 
-      pub plain_turned_told : (T L w : ℕ) (r : Found) → FoundStaying s c T L w bytes r
+      pub plain_turned_told : (T L w : ℕ) (r : Option ℕ) → FoundStaying s c T L w bytes r
           → FoundStaying s c T L w (key_bytes (reversed_key (key_read batch from))) r
       plain_turned_told =
           turned_told s c index (key_read batch from) key.hash before buffer (key.next - from) bytes turned_front lies
@@ -85,8 +85,8 @@ module _ (s : List ℕ) (c : ℕ) (index : List ℕ) (facts : PacketFacts) (batc
     plain = ask.plain;
   }
 
-  pub plain_chosen : (T L w : ℕ) (own turned : Found) (syn there : Bool) → syn ≡ engine.syn p → FoundStaying s c T L w bytes own
-      → there ≡ found_it own → TurnedIf (syn || not there) s c T L w (key_bytes (reversed_key (key_read batch from))) turned
+  pub plain_chosen : (T L w : ℕ) (own turned : Option ℕ) (syn there : Bool) → syn ≡ engine.syn p → FoundStaying s c T L w bytes own
+      → there ≡ is_some own → TurnedIf (syn || not there) s c T L w (key_bytes (reversed_key (key_read batch from))) turned
       → (r : Choice) → r ≡ choice_at s syn own true turned → Chosen s c T L w p r.ended r.slot r.direction
   plain_chosen T L w own turned syn there syn-is first there-is second =
       choice_told s c T L w index p bytes decides own turned syn true there syn-is (sym (plain_two_way batch from (sym ask.plain)))

@@ -1,4 +1,5 @@
 -- What the tests of an open flow that stays open answer. Assumes nothing.
+use Rattle.std.specs.Prelude.{None, Option, Some}
 use mathlib.Core.Path.{◌≡◌, refl, sym, ap, ◌∙◌, subst}
 use mathlib.Core.Bool.{Bool, true, false, not, cond, ◌&&◌, false≢true}
 use mathlib.Core.List.{List}
@@ -8,7 +9,6 @@ use lib.Dec.{eqb, ltb}
 use lib.ListN.{length, get_or}
 use Rattle.memory.specs.Bytes.{num, part}
 use Rattle.slots.specs.Table.{slot}
-use Rattle.slots.specs.declared.Found.{Found}
 use Rattle.words.specs.Words.{record_of, direction_at}
 use Rattle.flow.specs.Counting.{mask_of, has_room}
 use Rattle.flow.specs.Summary.{rst, bit_of}
@@ -43,35 +43,35 @@ stays_told s i facts a b d = λ t. not (a t) && not (b t) && d t
 
 -- ## The slot
 
-module _ (s : List ℕ) (facts : PacketFacts) (ended found : Found) where
-  pub one_ends : (j : ℕ) → ended ≡ Found.At j → Found.Nothing ≡ stays_open s facts ended found
-  one_ends j e = sym (ap (λ (x : Found). stays_open s facts x found) e)
+module _ (s : List ℕ) (facts : PacketFacts) (ended found : Option ℕ) where
+  pub one_ends : (j : ℕ) → ended ≡ Some j → None ≡ stays_open s facts ended found
+  one_ends j e = sym (ap (λ (x : Option ℕ). stays_open s facts x found) e)
 
-  module _ (none_ends : ended ≡ Found.Nothing) where
-    pub one_opens : found ≡ Found.Nothing → Found.Nothing ≡ stays_open s facts ended found
+  module _ (none_ends : ended ≡ None) where
+    pub one_opens : found ≡ None → None ≡ stays_open s facts ended found
     one_opens e = sym (λ t. stays_open s facts (none_ends t) (e t))
 
-    module _ (i : ℕ) (here : found ≡ Found.At i) where
+    module _ (i : ℕ) (here : found ≡ Some i) where
       pub in_state : InState s found → 256 + 624 * i + 624 ≤ length s
       in_state h = h i here
 
       module _ (b : Bool) (test : b ≡ stays_at s facts i) where
-        by_test : (x : Bool) → b ≡ x → stays_open s facts ended found ≡ cond x (Found.At i) Found.Nothing
+        by_test : (x : Bool) → b ≡ x → stays_open s facts ended found ≡ cond x (Some i) None
         by_test x e =
-            (λ t. stays_open s facts (none_ends t) (here t)) ∙ ap (λ (y : Bool). cond y (Found.At i) Found.Nothing) (sym test ∙ e)
+            (λ t. stays_open s facts (none_ends t) (here t)) ∙ ap (λ (y : Bool). cond y (Some i) None) (sym test ∙ e)
 
-        pub stays_there : b ≡ true → Found.At i ≡ stays_open s facts ended found
+        pub stays_there : b ≡ true → Some i ≡ stays_open s facts ended found
         stays_there y = sym (by_test true y)
 
-        pub stays_not : b ≡ false → Found.Nothing ≡ stays_open s facts ended found
+        pub stays_not : b ≡ false → None ≡ stays_open s facts ended found
         stays_not y = sym (by_test false y)
 
 -- ## What it says
 
 -- step 1 ends none, slot i takes the packet, and its flow stays open
-pub record StaysFacts (s : List ℕ) (facts : PacketFacts) (ended found : Found) (i : ℕ) : Type 0 where
-  pub none_ends : ended ≡ Found.Nothing
-  pub here : found ≡ Found.At i
+pub record StaysFacts (s : List ℕ) (facts : PacketFacts) (ended found : Option ℕ) (i : ℕ) : Type 0 where
+  pub none_ends : ended ≡ None
+  pub here : found ≡ Some i
   pub no_rst : eqb (bit_of rst (mask_of facts.tcp_flags)) 1 ≡ false
   pub unclosed : both_fins (record_in (slot s i)) ≡ false
   pub room : has_room (record_in (slot s i)) facts ≡ true
@@ -81,22 +81,22 @@ three_tests true b d e = absurd (false≢true e)
 three_tests false true d e = absurd (false≢true e)
 three_tests false false d e = (refl, refl, e)
 
-pub stays_facts : (s : List ℕ) (facts : PacketFacts) (ended found : Found) (i : ℕ) → Found.At i ≡ stays_open s facts ended found
+pub stays_facts : (s : List ℕ) (facts : PacketFacts) (ended found : Option ℕ) (i : ℕ) → Some i ≡ stays_open s facts ended found
     → StaysFacts s facts ended found i
-stays_facts s facts (Found.At j) found i e = absurd (let z : ◌≡◌ {A = ℕ} 0 1 = cc in omega arith)
-stays_facts s facts Found.Nothing Found.Nothing i e = absurd (let z : ◌≡◌ {A = ℕ} 0 1 = cc in omega arith)
-stays_facts s facts Found.Nothing (Found.At j) i e = go (stays_at s facts j) refl e
+stays_facts s facts (Some j) found i e = absurd (let z : ◌≡◌ {A = ℕ} 0 1 = cc in omega arith)
+stays_facts s facts None None i e = absurd (let z : ◌≡◌ {A = ℕ} 0 1 = cc in omega arith)
+stays_facts s facts None (Some j) i e = go (stays_at s facts j) refl e
   where
-    go : (b : Bool) → stays_at s facts j ≡ b → Found.At i ≡ cond b (Found.At j) Found.Nothing
-        → StaysFacts s facts Found.Nothing (Found.At j) i
+    go : (b : Bool) → stays_at s facts j ≡ b → Some i ≡ cond b (Some j) None
+        → StaysFacts s facts None (Some j) i
     go true q h =
         let same : j ≡ i = cc in
         let (no_rst, unclosed, room) = three_tests _ _ _ (subst (λ (x : ℕ). stays_at s facts x ≡ true) same q) in
-        record { none_ends = refl; here = ap Found.At same; no_rst = no_rst; unclosed = unclosed; room = room }
+        record { none_ends = refl; here = ap Some same; no_rst = no_rst; unclosed = unclosed; room = room }
     go false q h = absurd (let z : ◌≡◌ {A = ℕ} 0 1 = cc in omega arith)
 
-pub facts_stay : (s : List ℕ) (facts : PacketFacts) (ended found : Found) (i : ℕ) → StaysFacts s facts ended found i
-    → stays_open s facts ended found ≡ Found.At i
+pub facts_stay : (s : List ℕ) (facts : PacketFacts) (ended found : Option ℕ) (i : ℕ) → StaysFacts s facts ended found i
+    → stays_open s facts ended found ≡ Some i
 facts_stay s facts ended found i h =
     (λ t. stays_open s facts (h.none_ends t) (h.here t))
-    ∙ ap (λ (b : Bool). cond b (Found.At i) Found.Nothing) (λ t. not (h.no_rst t) && not (h.unclosed t) && h.room t)
+    ∙ ap (λ (b : Bool). cond b (Some i) None) (λ t. not (h.no_rst t) && not (h.unclosed t) && h.room t)

@@ -1,9 +1,8 @@
 -- What one packet will do, in the words of the rules: steps 1 to 4 and the refusals Full and Spent, on the flows as its sweep will leave
 -- them.
-use Rattle.std.specs.Prelude.{ℕ, ◌+◌, ◌*◌, ◌≤◌, ◌<◌, ◌≡◌, true, false, not, cond, List, map, length}
-use Rattle.std.proofs.Math.Option.{Option, none, some}
+use Rattle.forms.specs.Refusals.{stop_number}
+use Rattle.std.specs.Prelude.{ℕ, ◌+◌, ◌*◌, ◌≤◌, ◌<◌, ◌≡◌, true, false, not, cond, List, map, length, None, Option, Some}
 use Rattle.slots.specs.Table.{slot, slots, is_used}
-use Rattle.slots.specs.declared.Found.{Found}
 use Rattle.index.specs.Hash.{hash_of}
 use Rattle.index.specs.Index.{Indexed}
 use Rattle.flow.specs.Counting.{opened_of}
@@ -18,7 +17,7 @@ use Rattle.rules.specs.Slots.{Slots, keep, meaning}
 use Rattle.state.specs.Slot.{flow_in}
 use Rattle.state.specs.State.{SoundFlows, slots_of}
 use Rattle.plan.specs.Plan.{leaves_by}
-use Rattle.hand.specs.Acting.{at, emptied_at, reason_of}
+use Rattle.hand.specs.Acting.{at, emptied_at}
 use Rattle.decide.specs.declared.decide.Decision.{Decision}
 
 -- ## The flows as the packet's sweep will leave them
@@ -53,8 +52,8 @@ taker_on p l = taker engine p (left_flows p l)
 
 -- a flow takes the packet in this direction; where there is none, one opens
 abbrev pub taker_of : Option (Flow engine) → Direction → Taker engine
-taker_of none d = new
-taker_of (some f) d = old d f
+taker_of None d = new
+taker_of (Some f) d = old d f
 
 -- the record that takes the packet, before it
 abbrev pub held_before : Settings → Packet → Taker engine → FlowRecord
@@ -74,13 +73,13 @@ pub record DecideAsked (s : List ℕ) (c : ℕ) (index : List ℕ) (p : Packet) 
 -- ## What is answered
 
 -- steps 1 and 2: which flow ends without the packet, which takes it, and where they sit
-pub record Chosen (s : List ℕ) (c T L w : ℕ) (p : Packet) (ended slot : Found) (direction : Direction) : Type 0 where
+pub record Chosen (s : List ℕ) (c T L w : ℕ) (p : Packet) (ended slot : Option ℕ) (direction : Direction) : Type 0 where
   pub ended_is : at (staying_slots T L w (slots s c)) ended ≡ ended_flow p (staying_slots T L w (slots s c))
-  pub ended_sits : (i : ℕ) → ended ≡ Found.At i → Stays s c T L w i
-  pub slot_sits : (i : ℕ) → slot ≡ Found.At i → Stays s c T L w i
-  pub apart : (i : ℕ) → slot ≡ Found.At i → ended ≡ Found.At i → ⊥
+  pub ended_sits : (i : ℕ) → ended ≡ Some i → Stays s c T L w i
+  pub slot_sits : (i : ℕ) → slot ≡ Some i → Stays s c T L w i
+  pub apart : (i : ℕ) → slot ≡ Some i → ended ≡ Some i → ⊥
   pub taker_is : taker_of (at (emptied_at ended (staying_slots T L w (slots s c))) slot) direction ≡ taker_on p (staying_slots T L w (slots s c))
-  pub opens_forward : slot ≡ Found.Nothing → direction ≡ Forward
+  pub opens_forward : slot ≡ None → direction ≡ Forward
 
 -- the whole decision
 pub record Decided (S : Settings) (s : List ℕ) (w : ℕ) (p : Packet) (r : Decision) : Type 0 where
@@ -88,11 +87,11 @@ pub record Decided (S : Settings) (s : List ℕ) (w : ℕ) (p : Packet) (r : Dec
   pub direction : Direction
   pub chosen : Chosen s S.capacity S.T S.L w p r.ended r.slot direction
   -- Full, judged after the sweep and step 1, or Spent
-  pub refusal : r.refusal ≡ cond (is_full engine S (left_flows p (swept_slots S s w)) (taker_on p (swept_slots S s w))) 5
+  pub refusal : stop_number r.refusal ≡ cond (is_full engine S (left_flows p (swept_slots S s w)) (taker_on p (swept_slots S s w))) 5
       (cond (is_spent engine p (taker_on p (swept_slots S s w))) 6 0)
   -- step 3; a refused packet is not counted
   pub name : r.name ≡ (taking engine S p (taker_on p (swept_slots S s w))).name
-  pub record_is : r.refusal ≡ 0 → r.«record» ≡ (taking engine S p (taker_on p (swept_slots S s w))).held
-  pub record_kept : (r.refusal ≡ 0 → ⊥) → r.«record» ≡ held_before S p (taker_on p (swept_slots S s w))
+  pub record_is : stop_number r.refusal ≡ 0 → r.«record» ≡ (taking engine S p (taker_on p (swept_slots S s w))).held
+  pub record_kept : ((stop_number r.refusal) ≡ 0 → ⊥) → r.«record» ≡ held_before S p (taker_on p (swept_slots S s w))
   -- step 4
-  pub reason : reason_of r.reason ≡ ending engine (ended_flow p (swept_slots S s w)) p (taker_on p (swept_slots S s w))
+  pub reason : r.reason ≡ ending engine (ended_flow p (swept_slots S s w)) p (taker_on p (swept_slots S s w))

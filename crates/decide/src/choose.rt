@@ -1,4 +1,4 @@
-// Steps 1 and 2: the flow that ends without the packet, and the flow that takes it.
+//! Steps 1 and 2: the flow that ends without the packet, and the flow that takes it.
 ghost use Rattle.std.specs.Prelude.{◌≡◌, ◌+◌, ◌*◌, ◌≤◌, eqb, length};
 ghost use Rattle.slots.specs.Table.{slot};
 ghost use Rattle.flow.specs.Counting.{mask_of};
@@ -17,11 +17,8 @@ use crate::search::{find_staying, find_turned, find_turned_plain};
 use crate::steady::word;
 use flow::record::{Direction, PacketFacts, mask_of};
 use flow::time::{Idle, Nanos};
-use forms::optional::OptU16;
 use key::key::FlowKey;
 use plain::Plain;
-use slots::Found;
-use state::keys::is_found;
 use wire::packet::Packet;
 
 // The word of a record that counts its forward FINs.
@@ -30,22 +27,23 @@ const FORWARD_FINS: usize = 15;
 // The word that counts its reverse FINs.
 const REVERSE_FINS: usize = 28;
 
-// The flow that step 1 ends, and the one that takes the packet, in that direction; no slot where a flow opens.
+/// The flow that step 1 ends, and the one that takes the packet, in that direction; no slot where a flow opens.
 #[derive(Clone, Copy)]
 pub struct Choice {
-    pub ended: Found,
-    pub slot: Found,
+    pub ended: Option<usize>,
+    pub slot: Option<usize>,
     pub direction: Direction,
 }
 
 // Whether SYN is set.
-fn has_syn(flags: OptU16) -> bool
+fn has_syn(flags: Option<u16>) -> bool
     ensures { result ≡ eqb (bit_of syn (mask_of flags)) 1 }
 {
     mask_of(flags) / 2 % 2 == 1
 }
 
 // Whether slot i's flow has seen both FINs.
+#[tactic(auto, using(crate::proofs::Ways::fins_told))]
 pub(crate) fn closed_at(state: &[u8], i: usize) -> bool
     requires { 256 + 624 * i + 624 ≤ length state.now }
     ensures { result ≡ both_fins (record_in (slot state.now i)) }
@@ -54,33 +52,35 @@ pub(crate) fn closed_at(state: &[u8], i: usize) -> bool
 }
 
 // The slot, if its flow has seen both FINs.
-fn if_closed(state: &[u8], found: Found) -> Found
+fn if_closed(state: &[u8], found: Option<usize>) -> Option<usize>
     requires { InState state.now found }
     ensures { result ≡ if_closed_at state.now found }
 {
     match found {
-        Found::At(i) => {
+        Some(i) => {
             if closed_at(state, i) {
-                return Found::At(i);
+                return Some(i);
             }
-            Found::Nothing
+            None
         }
-        Found::Nothing => Found::Nothing,
+        None => None,
     }
 }
 
 // The first of the two that is there.
-fn first_found(first: Found, second: Found) -> Found
+#[tactic(auto, using(crate::proofs::Ways::first_there))]
+fn first_found(first: Option<usize>, second: Option<usize>) -> Option<usize>
     ensures { result ≡ first_found first second }
 {
     match first {
-        Found::At(i) => Found::At(i),
-        Found::Nothing => second,
+        Some(i) => Some(i),
+        None => second,
     }
 }
 
 // Step 1: if SYN is set, the flow under the packet's key that has seen both FINs, or else the one under the reversed key.
-fn reused(state: &[u8], syn: bool, own: Found, turned: Found) -> Found
+#[tactic(auto, using(crate::proofs::Ways::syn_set))]
+fn reused(state: &[u8], syn: bool, own: Option<usize>, turned: Option<usize>) -> Option<usize>
     requires in_state { InState state.now own }
     requires in_state_2 { InState state.now turned }
     ensures { result ≡ reused_at state.now syn own turned }
@@ -88,54 +88,68 @@ fn reused(state: &[u8], syn: bool, own: Found, turned: Found) -> Found
     if syn {
         return first_found(if_closed(state, own), if_closed(state, turned));
     }
-    Found::Nothing
+    None
 }
 
 // The slot, unless it is the one that step 1 ends.
-fn unless_ended(found: Found, ended: Found) -> Found
+#[tactic(auto, using(crate::proofs::Ways::unless_same, crate::proofs::Ways::unless_other, crate::proofs::Ways::unless_none))]
+fn unless_ended(found: Option<usize>, ended: Option<usize>) -> Option<usize>
     ensures { result ≡ unless_ended found ended }
 {
     match found {
-        Found::At(i) => match ended {
-            Found::At(j) => {
+        Some(i) => match ended {
+            Some(j) => {
                 if i == j {
-                    return Found::Nothing;
+                    return None;
                 }
-                Found::At(i)
+                Some(i)
             }
-            Found::Nothing => Found::At(i),
+            None => Some(i),
         },
-        Found::Nothing => Found::Nothing,
+        None => None,
     }
 }
 
 // Step 2: the flow under the packet's key takes it, or else the one under the reversed key, unless the endpoints are one-way.
-fn taken_by(ended: Found, own: Found, two_way: bool, turned: Found) -> Choice
+#[tactic(auto, using(crate::proofs::Ways::own_takes, crate::proofs::Ways::turned_takes, crate::proofs::Ways::none_takes))]
+fn taken_by(
+    ended: Option<usize>,
+    own: Option<usize>,
+    two_way: bool,
+    turned: Option<usize>,
+) -> Choice
     ensures { result ≡ taken_by ended own two_way turned }
 {
-    if is_found(own) {
+    if own.is_some() {
         return Choice {
-            ended: ended,
+            ended,
             slot: own,
             direction: Direction::Forward,
         };
     }
-    if two_way & is_found(turned) {
+    if two_way & turned.is_some() {
         return Choice {
-            ended: ended,
+            ended,
             slot: turned,
             direction: Direction::Reverse,
         };
     }
     Choice {
-        ended: ended,
-        slot: Found::Nothing,
+        ended,
+        slot: None,
         direction: Direction::Forward,
     }
 }
 
 // Both steps, from what was found under the key and under the reversed key.
-fn choice_of(state: &[u8], syn: bool, own: Found, two_way: bool, turned: Found) -> Choice
+#[tactic(auto, using(crate::proofs::Ways::choice_made))]
+fn choice_of(
+    state: &[u8],
+    syn: bool,
+    own: Option<usize>,
+    two_way: bool,
+    turned: Option<usize>,
+) -> Choice
     requires in_state { InState state.now own }
     requires in_state_2 { InState state.now turned }
     ensures { result ≡ choice_at state.now syn own two_way turned }
@@ -150,6 +164,7 @@ fn choice_of(state: &[u8], syn: bool, own: Found, two_way: bool, turned: Found) 
 }
 
 // The search under the reversed key, where it is needed.
+#[tactic(auto, using(crate::proofs::Ways::turned_needed, crate::proofs::Ways::turned_unneeded))]
 fn turned_if(
     needed: bool,
     state: &[u8],
@@ -159,7 +174,7 @@ fn turned_if(
     clock: Nanos,
     key: FlowKey,
     hash: u64,
-) -> Found
+) -> Option<usize>
     requires search_asked { SearchAsked state.now capacity index.now (key_bytes key) hash }
     requires key_in_range { KeyInRange key }
     ensures { TurnedIf needed state.now capacity idle.timeout.0 idle.lateness.0 clock.0 (key_bytes (reversed_key key)) result }
@@ -167,7 +182,7 @@ fn turned_if(
     if needed {
         return find_turned(state, capacity, index, idle, clock, key, hash);
     }
-    Found::Nothing
+    None
 }
 
 // The flow that step 1 ends, and the flow that takes the packet.
@@ -184,20 +199,18 @@ pub(crate) fn choose(
     ensures { Chosen state.now capacity idle.timeout.0 idle.lateness.0 clock.0 packet result.ended result.slot result.direction }
 {
     let key = packet.key;
-    let facts = packet.facts;
-    let flags = facts.tcp_flags;
-    let endpoints = key.endpoints;
     let hash = key.shard(524_288);
-    let two_way = endpoints.has_reverse_direction();
-    let syn = has_syn(flags);
+    let two_way = key.endpoints.has_reverse_direction();
+    let syn = has_syn(packet.facts.tcp_flags);
     let own = find_staying(state, capacity, index, idle, clock, bytes, hash);
     // The reversed key matters to step 1 only with SYN, and to step 2 only where the key has no flow of its own.
-    let needed = syn | (two_way & !is_found(own));
+    let needed = syn | (two_way & !own.is_some());
     let turned = turned_if(needed, state, capacity, index, idle, clock, key, hash);
     choice_of(state, syn, own, two_way, turned)
 }
 
 // The search under the reverse of a plain key, where it is needed.
+#[tactic(auto, using(crate::proofs::Ways::turned_needed, crate::proofs::Ways::turned_unneeded))]
 fn turned_plain_if(
     needed: bool,
     state: &[u8],
@@ -208,17 +221,17 @@ fn turned_plain_if(
     batch: &[u8],
     from: usize,
     key: Plain,
-) -> Found
+) -> Option<usize>
     requires { TurnedAsked state.now capacity index.now batch.now from key }
     ensures { TurnedIf needed state.now capacity idle.timeout.0 idle.lateness.0 clock.0 (key_bytes (reversed_key (key_read batch.now from))) result }
 {
     if needed {
         return find_turned_plain(state, capacity, index, idle, clock, batch, from, key);
     }
-    Found::Nothing
+    None
 }
 
-// Steps 1 and 2 for a packet with a plain key, which is looked for by its bytes where they lie.
+/// Steps 1 and 2 for a packet with a plain key, which is looked for by its bytes where they lie.
 pub fn choose_plain(
     state: &[u8],
     capacity: usize,
@@ -233,20 +246,18 @@ pub fn choose_plain(
     requires { PlainAsked state.now capacity index.now facts batch.now from key }
     ensures { Chosen state.now capacity idle.timeout.0 idle.lateness.0 clock.0 (record { facts = facts; key = key_read batch.now from }) result.ended result.slot result.direction }
 {
-    let flags = facts.tcp_flags;
-    let next = key.next;
-    let syn = has_syn(flags);
+    let syn = has_syn(facts.tcp_flags);
     let own = find_staying(
         state,
         capacity,
         index,
         idle,
         clock,
-        &batch[from..next],
+        &batch[from..key.next],
         key.hash,
     );
     // As in `choose`: the reversed key matters to step 1 only with SYN, and to step 2 only where the key has no flow of its own.
-    let needed = syn | !is_found(own);
+    let needed = syn | !own.is_some();
     let turned = turned_plain_if(
         needed, state, capacity, index, idle, clock, batch, from, key,
     );

@@ -1,4 +1,4 @@
-// What one packet will do, decided before anything is done: on the flows as its sweep will leave them.
+//! What one packet will do, decided before anything is done: on the flows as its sweep will leave them.
 #![tactic(auto)]
 
 pub mod choose;

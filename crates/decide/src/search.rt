@@ -1,4 +1,4 @@
-// The search for a flow that stays: one that leaves by the packet's sweep counts as missing.
+//! The search for a flow that stays: one that leaves by the packet's sweep counts as missing.
 ghost use Rattle.std.specs.Prelude.{◌≡◌, ◌+◌, ◌*◌, ◌≤◌, length};
 ghost use Rattle.slots.specs.Table.{slot};
 ghost use Rattle.key.specs.Key.{reversed_key};
@@ -13,32 +13,35 @@ ghost use Rattle.decide.specs.PlainKey.{TurnedAsked};
 use flow::time::{Idle, Nanos};
 use key::key::FlowKey;
 use plain::{Plain, write_turned};
-use slots::Found;
 use state::keys::{front, write_reversed};
 
 // Whether slot i's flow leaves by the clock: its end + T + L is at most W, and there is a timeout.
+#[tactic(auto, using(crate::proofs::Staying::leaves_told))]
 fn leaves(state: &[u8], i: usize, idle: Idle, clock: Nanos) -> bool
     requires { 256 + 624 * i + 624 ≤ length state.now }
     ensures { result ≡ leaves_by idle.timeout.0 idle.lateness.0 clock.0 (flow_in (slot state.now i)) }
 {
-    let timeout = idle.timeout;
-    let lateness = idle.lateness;
-    rules::leaves(table::end_of(state, i), timeout.0, lateness.0, clock.0)
+    rules::leaves(
+        table::end_of(state, i),
+        idle.timeout.0,
+        idle.lateness.0,
+        clock.0,
+    )
 }
 
 // The slot, unless its flow leaves.
-fn if_staying(state: &[u8], found: Found, idle: Idle, clock: Nanos) -> Found
+fn if_staying(state: &[u8], found: Option<usize>, idle: Idle, clock: Nanos) -> Option<usize>
     requires { InState state.now found }
     ensures { result ≡ if_staying state.now idle.timeout.0 idle.lateness.0 clock.0 found }
 {
     match found {
-        Found::At(i) => {
+        Some(i) => {
             if leaves(state, i, idle, clock) {
-                return Found::Nothing;
+                return None;
             }
-            Found::At(i)
+            Some(i)
         }
-        Found::Nothing => Found::Nothing,
+        None => None,
     }
 }
 
@@ -51,7 +54,7 @@ pub(crate) fn find_staying(
     clock: Nanos,
     bytes: &[u8],
     hash: u64,
-) -> Found
+) -> Option<usize>
     requires { SearchAsked state.now capacity index.now bytes.now hash }
     ensures { FoundStaying state.now capacity idle.timeout.0 idle.lateness.0 clock.0 bytes.now result }
 {
@@ -60,6 +63,7 @@ pub(crate) fn find_staying(
 }
 
 // The slot of the flow under the reversed key that stays.
+#[tactic(auto, using(state::specs::SlotTest::front_fits, crate::proofs::Staying::turned_asked, crate::proofs::Staying::turned_told))]
 pub(crate) fn find_turned(
     state: &[u8],
     capacity: usize,
@@ -68,7 +72,7 @@ pub(crate) fn find_turned(
     clock: Nanos,
     key: FlowKey,
     hash: u64,
-) -> Found
+) -> Option<usize>
     requires search_asked { SearchAsked state.now capacity index.now (key_bytes key) hash }
     requires key_in_range { KeyInRange key }
     ensures { FoundStaying state.now capacity idle.timeout.0 idle.lateness.0 clock.0 (key_bytes (reversed_key key)) result }
@@ -88,7 +92,7 @@ pub(crate) fn find_turned_plain(
     batch: &[u8],
     from: usize,
     key: Plain,
-) -> Found
+) -> Option<usize>
     requires { TurnedAsked state.now capacity index.now batch.now from key }
     ensures { FoundStaying state.now capacity idle.timeout.0 idle.lateness.0 clock.0 (key_bytes (reversed_key (key_read batch.now from))) result }
 {

@@ -1,7 +1,7 @@
 -- A batch: the packets that its bytes begin with, and what stands behind them. Assumes nothing.
 use Rattle.std.specs.Prelude.{ℕ, zero, suc, ◌+◌, ◌-◌, ◌≤◌, ◌<◌, ◌≡◌, refl, List, [], ◌∷◌, ◌++◌, length, drop, get_or}
 use Rattle.std.proofs.Common.{sym, ap, ◌∙◌, arith, add-one, length-append, length-drop, drop-cons}
-use Rattle.forms.specs.Form.{Form, Read, got, short, refused, and_then}
+use Rattle.forms.specs.Form.{Form, Read, got, and_then}
 use Rattle.forms.specs.At.{read_at, placed_byte, next_place}
 use Rattle.wire.specs.PacketForm.{packet}
 use Rattle.wire.specs.PacketTheorems.{PacketInRange, packet_in_range_lem, packet_at_least}
@@ -9,6 +9,8 @@ use Rattle.wire.specs.declared.packet.Packet.{Packet}
 use Rattle.rules.specs.Rules.{Refusal, Accepted, BadPacket, Short, Settings, Engine, Told, feed_all}
 use Rattle.rules.specs.Engine.{engine}
 use Rattle.rules.specs.Totals.{total}
+use Rattle.forms.specs.Form.{stop}
+use Rattle.forms.specs.declared.stop.Stop.{Stop}
 
 -- the packets, and the refusal of what stands behind them: none at the batch's empty end, else 4 or 9
 pub record Parsed : Type 0 where
@@ -18,8 +20,8 @@ pub record Parsed : Type 0 where
 -- by what reading one packet finds; `more` is what is made of the rest
 abbrev pub parsed_by : Read Packet (List ℕ) → (List ℕ → Parsed) → Parsed
 parsed_by (got p rest) more = record { packets = p ∷ (more rest).packets; ends = (more rest).ends }
-parsed_by short more = record { packets = []; ends = Short }
-parsed_by refused more = record { packets = []; ends = BadPacket }
+parsed_by (stop Stop.Short) more = record { packets = []; ends = Short }
+parsed_by (stop Stop.Refused) more = record { packets = []; ends = BadPacket }
 
 abbrev pub parsed_from : List ℕ → (List ℕ → Parsed) → Parsed
 parsed_from [] more = record { packets = []; ends = Accepted }
@@ -64,8 +66,8 @@ enough (suc n) (suc m) (b ∷ bs) h g = go (λ l p q. enough n m l p q) (packet.
     go more (got p rest) e =
         let less = shorter (b ∷ bs) p rest e in
         ap (λ (x : Parsed). record { packets = p ∷ x.packets; ends = x.ends }) (more rest (omega (arith, packet_at_least p)) (omega (arith, packet_at_least p)))
-    go more short e = refl
-    go more refused e = refl
+    go more (stop Stop.Short) e = refl
+    go more (stop Stop.Refused) e = refl
 
 -- the batch's end
 pub parsed_end : (batch : List ℕ) → length batch ≡ 0 → parsed batch ≡ record { packets = []; ends = Accepted }
@@ -83,8 +85,8 @@ begins (b ∷ bs) h = go (packet.read (b ∷ bs)) refl
     go (got p rest) e =
         let less = shorter (b ∷ bs) p rest e in
         ap (λ (x : Parsed). record { packets = p ∷ x.packets; ends = x.ends }) (enough (length bs) (length rest) rest (omega (arith, packet_at_least p)) (omega arith))
-    go short e = refl
-    go refused e = refl
+    go (stop Stop.Short) e = refl
+    go (stop Stop.Refused) e = refl
 
 -- what reading at a place finds of the batch from there on
 module _ {A : Type 0} (form : Form A) (batch : List ℕ) (at : ℕ) (some : at < length batch) where
@@ -106,8 +108,8 @@ module _ {A : Type 0} (form : Form A) (batch : List ℕ) (at : ℕ) (some : at <
           let many = length-drop at batch in
           let end : n ≡ at + length (form.write b) = omega arith in
           end ∙ ap (λ (x : A). at + length (form.write x)) same
-      go short is w = absurd (let z : ◌≡◌ {A = ℕ} 0 1 = cc in omega arith)
-      go refused is w = absurd (let z : ◌≡◌ {A = ℕ} 0 1 = cc in omega arith)
+      go (stop Stop.Short) is w = absurd (let z : ◌≡◌ {A = ℕ} 0 1 = cc in omega arith)
+      go (stop Stop.Refused) is w = absurd (let z : ◌≡◌ {A = ℕ} 0 1 = cc in omega arith)
 
 module _ (batch : List ℕ) (at : ℕ) (some : at < length batch) where
   left : 0 < length (drop at batch)
@@ -116,21 +118,21 @@ module _ (batch : List ℕ) (at : ℕ) (some : at < length batch) where
   read_here : read_at packet batch at ≡ and_then (packet.read (drop at batch)) (λ a rest. got a (length batch - length rest))
   read_here = read_from_lem packet batch at some
 
-  pub short_here : read_at packet batch at ≡ short → parsed (drop at batch) ≡ record { packets = []; ends = Short }
+  pub short_here : read_at packet batch at ≡ stop Stop.Short → parsed (drop at batch) ≡ record { packets = []; ends = Short }
   short_here e = begins (drop at batch) left ∙ go (packet.read (drop at batch)) (sym read_here ∙ e)
     where
-      go : (r : Read Packet (List ℕ)) → and_then r (λ a rest. got a (length batch - length rest)) ≡ short → parsed_by r parsed ≡ record { packets = []; ends = Short }
+      go : (r : Read Packet (List ℕ)) → and_then r (λ a rest. got a (length batch - length rest)) ≡ stop Stop.Short → parsed_by r parsed ≡ record { packets = []; ends = Short }
       go (got p rest) q = absurd (let z : ◌≡◌ {A = ℕ} 0 1 = cc in omega arith)
-      go short q = refl
-      go refused q = absurd (let z : ◌≡◌ {A = ℕ} 0 1 = cc in omega arith)
+      go (stop Stop.Short) q = refl
+      go (stop Stop.Refused) q = absurd (let z : ◌≡◌ {A = ℕ} 0 1 = cc in omega arith)
 
-  pub refused_here : read_at packet batch at ≡ refused → parsed (drop at batch) ≡ record { packets = []; ends = BadPacket }
+  pub refused_here : read_at packet batch at ≡ stop Stop.Refused → parsed (drop at batch) ≡ record { packets = []; ends = BadPacket }
   refused_here e = begins (drop at batch) left ∙ go (packet.read (drop at batch)) (sym read_here ∙ e)
     where
-      go : (r : Read Packet (List ℕ)) → and_then r (λ a rest. got a (length batch - length rest)) ≡ refused → parsed_by r parsed ≡ record { packets = []; ends = BadPacket }
+      go : (r : Read Packet (List ℕ)) → and_then r (λ a rest. got a (length batch - length rest)) ≡ stop Stop.Refused → parsed_by r parsed ≡ record { packets = []; ends = BadPacket }
       go (got p rest) q = absurd (let z : ◌≡◌ {A = ℕ} 0 1 = cc in omega arith)
-      go short q = absurd (let z : ◌≡◌ {A = ℕ} 0 1 = cc in omega arith)
-      go refused q = refl
+      go (stop Stop.Short) q = absurd (let z : ◌≡◌ {A = ℕ} 0 1 = cc in omega arith)
+      go (stop Stop.Refused) q = refl
 
   -- a packet that ends at `next`
   pub record Here (p : Packet) (next : ℕ) : Type 0 where
@@ -160,5 +162,5 @@ module _ (batch : List ℕ) (at : ℕ) (some : at < length batch) where
                 begins (drop at batch) left ∙ ap (λ (x : Read Packet (List ℕ)). parsed_by x parsed) here
                 ∙ ap (λ (l : List ℕ). record { packets = p ∷ (parsed l).packets; ends = (parsed l).ends }) (sym tail);
           }
-      go short is w = absurd (let z : ◌≡◌ {A = ℕ} 0 1 = cc in omega arith)
-      go refused is w = absurd (let z : ◌≡◌ {A = ℕ} 0 1 = cc in omega arith)
+      go (stop Stop.Short) is w = absurd (let z : ◌≡◌ {A = ℕ} 0 1 = cc in omega arith)
+      go (stop Stop.Refused) is w = absurd (let z : ◌≡◌ {A = ℕ} 0 1 = cc in omega arith)

@@ -1,6 +1,7 @@
 -- Demand 3 of the promises: what follows for the bytes that calls leave and hand out, from a fresh engine touched by calls alone, refused
 -- ones included. It names the promises that the code is proved to keep and nothing else. Assumes nothing.
-use Rattle.std.specs.Prelude.{ℕ, ◌+◌, ◌*◌, ◌^◌, ◌≤◌, ◌<◌, ◌≡◌, refl, List, [], ◌∷◌, ◌++◌, length, take, drop}
+use Rattle.forms.specs.Refusals.{stop_number}
+use Rattle.std.specs.Prelude.{ℕ, ◌+◌, ◌*◌, ◌^◌, ◌≤◌, ◌<◌, ◌≡◌, refl, List, [], ◌∷◌, ◌++◌, length, take, drop, Err, Ok}
 use Rattle.std.proofs.Common.{sym, ap, ◌∙◌, arith, take_at}
 use Rattle.table.specs.View.{view}
 use Rattle.flow.specs.declared.time.Millis.{Millis}
@@ -14,11 +15,11 @@ use Rattle.rules.specs.EngineDemand.{ThirdDemand, engine_run}
 use Rattle.rules.proofs.EngineDemandLaws.{third_demand}
 use Rattle.state.specs.State.{Sound, settings_in, meaning}
 use Rattle.state.specs.Opening.{Opened, opened_sound, opened_settings, opened_fresh}
-use Rattle.state.specs.declared.opening.Opening.{Opening}
 use Rattle.engine.specs.declared.FeedAnswer.{FeedAnswer}
 use Rattle.sweeps.specs.Promise.{Did, Swept, Drained}
 use Rattle.engine.specs.Batch.{parsed, feed_bytes}
 use Rattle.engine.specs.Feed.{Fed}
+use Rattle.forms.specs.declared.refusal.Refusal.{Refusal}
 
 -- what was asked for at opening
 pub record Asked : Type 0 where
@@ -31,7 +32,7 @@ settings_of a = settings a.timeout a.resolution a.capacity
 
 -- opening that was not refused
 pub record OpenedFresh (a : Asked) (before after : List ℕ) : Type 0 where
-  pub promise : Opened before a.capacity a.timeout a.resolution Opening.Opened after
+  pub promise : Opened before a.capacity a.timeout a.resolution (Ok tt) after
   pub some : 1 ≤ a.capacity
   pub most : a.capacity ≤ 4096
   pub long : 256 + 640 * a.capacity ≤ length before
@@ -110,7 +111,7 @@ pub follows : (a : Asked) (calls : List (Call Packet)) (s handed : List ℕ) →
 follows a calls s handed (opened o) = follows_opened a _ s o
 follows a calls s handed (fed {calls = before} {s = s₀} {handed = h₀} k {batch} {room} {out = out} {r} p) =
     let was = follows a before s₀ h₀ k in
-    follows_more a before s₀ h₀ was (feed (length room) (parsed batch).packets (parsed batch).ends) (λ x e. feed_bytes x (length room) batch e) (feed_does (settings_of a) (length room) batch) room r.refusal r.records r.bytes s out (p.told was.sound).did
+    follows_more a before s₀ h₀ was (feed (length room) (parsed batch).packets (parsed batch).ends) (λ x e. feed_bytes x (length room) batch e) (feed_does (settings_of a) (length room) batch) room (stop_number r.refusal) r.records r.bytes s out (p.told was.sound).did
 follows a calls s handed (swept {calls = before} {s = s₀} {handed = h₀} k {time} {refusal} {records} {bytes} {room} {out = out} p) =
     let was = follows a before s₀ h₀ k in
     follows_more a before s₀ h₀ was (sweep (length room) time) (λ x e. sweep_at engine x (length room) time e) (λ x. (refl, refl)) room refusal records bytes s out (p.told was.sound)

@@ -1,5 +1,6 @@
 -- Feeding a batch: the promise, and the loop over the packets. Assumes nothing.
-use Rattle.std.specs.Prelude.{ℕ, suc, ◌+◌, ◌-◌, ◌≤◌, ◌<◌, ◌≡◌, Bool, true, false, cond, leb, take}
+use Rattle.forms.specs.Refusals.{stop_number}
+use Rattle.std.specs.Prelude.{ℕ, suc, ◌+◌, ◌-◌, ◌≤◌, ◌<◌, ◌≡◌, Bool, true, false, cond, leb, take, None}
 use Rattle.std.proofs.Math.Path.{refl, sym, ap}
 use Rattle.std.proofs.Common.{◌∙◌, subst, arith, leb-true, take-append-drop, drop_at, take_at}
 use mathlib.Core.List.{List, [], ◌∷◌, ◌++◌, append_assoc, append-nil}
@@ -28,14 +29,14 @@ use Rattle.sweeps.specs.StateLaws.{left_twice}
 
 -- "Feeding answers: refusal, packets taken, batch bytes used, flows opened, records written."
 pub record FedAs (t : Told engine) (packets : List Packet) (before room : List ℕ) (r : FeedAnswer) (after out : List ℕ) : Type 0 where
-  pub did : Did t before room r.refusal r.records r.bytes after out
+  pub did : Did t before room (stop_number r.refusal) r.records r.bytes after out
   pub taken : r.packets ≡ t.taken
   pub used : r.used ≡ form_bytes (take t.taken packets)
   pub opened : r.opened ≡ t.opens
 
 pub record Fed (before batch room : List ℕ) (r : FeedAnswer) (after out : List ℕ) : Type 0 where
   pub damaged : (Sound before → ⊥)
-      → NothingDone before room r.refusal r.records r.bytes after out × (r.packets ≡ 0) × (r.used ≡ 0) × (r.opened ≡ 0)
+      → NothingDone before room (stop_number r.refusal) r.records r.bytes after out × (r.packets ≡ 0) × (r.used ≡ 0) × (r.opened ≡ 0)
   pub told : Sound before → FedAs (feed_bytes (settings_in before) (length room) batch (meaning before)) (parsed batch).packets before room r after out
 
 -- ## What was told so far, and what is told of the rest
@@ -98,7 +99,7 @@ done_fits s room p e d q = subst (FitsIn room) q (answer_fits s room p e)
 
 module _ (batch before room : List ℕ) (c : ℕ) (idle : Idle) (resolution : TimeResolution) where
   abbrev nothing_yet : FeedAnswer
-  nothing_yet = record { refusal = 0; packets = 0; used = 0; opened = 0; records = 0; bytes = 0 }
+  nothing_yet = record { refusal = None; packets = 0; used = 0; opened = 0; records = 0; bytes = 0 }
 
   pub feeding_begins : (index free : List ℕ) → InCall before index free c idle resolution → Feeding batch before room nothing_yet c idle resolution before room index free
   feeding_begins index free h = record {
@@ -142,7 +143,7 @@ module _ (batch before room : List ℕ) (c : ℕ) (idle : Idle) (resolution : Ti
     -- nothing more is taken: what stands behind has this refusal, and the state s' means what s means
     stops : (why : Refusal) (s' : List ℕ) → Sound s' → meaning s' ≡ meaning s → settings_in s' ≡ settings_in s → Left (view c s) (view c s')
         → feed_bytes (settings_in before) (length room - r.bytes) (drop r.used batch) (meaning s) ≡ stopped engine why (meaning s)
-        → (r' : FeedAnswer) → r'.refusal ≡ number_of why → r'.packets ≡ r.packets → r'.used ≡ r.used → r'.opened ≡ r.opened → r'.records ≡ r.records
+        → (r' : FeedAnswer) → stop_number r'.refusal ≡ number_of why → r'.packets ≡ r.packets → r'.used ≡ r.used → r'.opened ≡ r.opened → r'.records ≡ r.records
         → r'.bytes ≡ r.bytes → FedAs (feed_bytes (settings_in before) (length room) batch (meaning before)) (parsed batch).packets before room r' s' out
     stops why s' sound' means' settings' left' rest r' e1 e2 e3 e4 e5 e6 =
         let is : feed_bytes (settings_in before) (length room) batch (meaning before) ≡ joined r.packets r.opened h.so_far (stopped engine why (meaning s)) =
@@ -173,7 +174,7 @@ module _ (batch before room : List ℕ) (c : ℕ) (idle : Idle) (resolution : Ti
         })
 
     -- the batch's empty end
-    pub feeding_ends : r.refusal ≡ 0 → length batch ≤ r.used → FedAs (feed_bytes (settings_in before) (length room) batch (meaning before)) (parsed batch).packets before room r s out
+    pub feeding_ends : stop_number r.refusal ≡ 0 → length batch ≤ r.used → FedAs (feed_bytes (settings_in before) (length room) batch (meaning before)) (parsed batch).packets before room r s out
     unfolding feed_bytes R.feed_all
     feeding_ends z e =
         let none : parsed (drop r.used batch) ≡ record { packets = []; ends = Accepted } = parsed_end (drop r.used batch) (omega (arith, length-drop r.used batch)) in
@@ -181,7 +182,7 @@ module _ (batch before room : List ℕ) (c : ℕ) (idle : Idle) (resolution : Ti
         (ap (λ (x : Parsed). feed_all engine (settings_in before) (length room - r.bytes) x.packets x.ends (meaning s)) none) r z refl refl refl refl refl
 
     -- bytes that are no packet, 4, or a cut one, 9
-    pub feeding_unread : (why : Refusal) → parsed (drop r.used batch) ≡ record { packets = []; ends = why } → (r' : FeedAnswer) → r'.refusal ≡ number_of why
+    pub feeding_unread : (why : Refusal) → parsed (drop r.used batch) ≡ record { packets = []; ends = why } → (r' : FeedAnswer) → stop_number r'.refusal ≡ number_of why
         → r'.packets ≡ r.packets → r'.used ≡ r.used → r'.opened ≡ r.opened → r'.records ≡ r.records → r'.bytes ≡ r.bytes
         → FedAs (feed_bytes (settings_in before) (length room) batch (meaning before)) (parsed batch).packets before room r' s out
     unfolding feed_bytes R.feed_all
@@ -223,7 +224,7 @@ module _ (batch before room : List ℕ) (c : ℕ) (idle : Idle) (resolution : Ti
       answer_of_lem = one_packet engine (settings_in s) (length part) p (meaning s)
 
       -- the packet is refused: nothing more is taken
-      pub feeding_refused : (step.refusal ≡ 0 → ⊥) → (out' : List ℕ) → out' ≡ take r.bytes out ++ part' → (r' : FeedAnswer) → r'.refusal ≡ step.refusal
+      pub feeding_refused : (stop_number step.refusal ≡ 0 → ⊥) → (out' : List ℕ) → out' ≡ take r.bytes out ++ part' → (r' : FeedAnswer) → stop_number r'.refusal ≡ stop_number step.refusal
           → r'.packets ≡ r.packets → r'.used ≡ r.used → r'.opened ≡ r.opened → r'.records ≡ r.records → r'.bytes ≡ r.bytes
           → FedAs (feed_bytes (settings_in before) (length room) batch (meaning before)) (parsed batch).packets before room r' s' out'
       feeding_refused n out' eo r' e1 e2 e3 e4 e5 e6 = go answer_of_lem refl packet_done.told
@@ -239,7 +240,7 @@ module _ (batch before room : List ℕ) (c : ℕ) (idle : Idle) (resolution : Ti
               (told_next ∙ ap (λ (x : R.Answer engine). next engine x (meaning s) rest_of) q) r' (e1 ∙ t.0) e2 e3 e4 e5 e6)
 
       -- it is taken
-      pub feeding_goes : step.refusal ≡ 0 → (out' : List ℕ) → out' ≡ take r.bytes out ++ part' → (r' : FeedAnswer)
+      pub feeding_goes : stop_number step.refusal ≡ 0 → (out' : List ℕ) → out' ≡ take r.bytes out ++ part' → (r' : FeedAnswer)
           → r'.packets ≡ r.packets + 1 → r'.used ≡ after → r'.opened ≡ r.opened + cond step.opened 1 0 → r'.records ≡ r.records + step.records
           → r'.bytes ≡ r.bytes + step.bytes → Feeding batch before room r' c idle resolution s' out' index' free'
       unfolding feed_bytes

@@ -1,5 +1,6 @@
 -- A batch fed to a state that the caller lends. Assumes nothing.
-use Rattle.std.specs.Prelude.{ℕ, ◌≤◌, ◌≡◌, refl, Bool, true, false, List, length}
+use Rattle.forms.specs.declared.refusal.Refusal.TheVariants.{Damaged}
+use Rattle.std.specs.Prelude.{ℕ, ◌≤◌, ◌≡◌, refl, Bool, true, false, List, length, Some}
 use Rattle.std.proofs.Common.{sym, ap, ◌∙◌, subst}
 use Rattle.memory.specs.Bytes.{part}
 use Rattle.wire.specs.RecordForm.{resolution_from}
@@ -39,7 +40,7 @@ module _ (s room batch index free : List ℕ) (yes : Bool) (checked : Checked s 
       → FedAs (feed_bytes (settings_in s) (length room) batch (meaning s)) (parsed batch).packets s room r after out → Fed s batch room r after out
   fed_sound e r after out did = record { damaged = λ n. absurd (n (checked.decides.0 e)); told = λ sound. did }
 
-  pub fed_damaged : yes ≡ false → (nothing : FeedAnswer) → nothing ≡ nothing_yet → (r : FeedAnswer) → r ≡ stopped_by 3 nothing → Fed s batch room r s room
+  pub fed_damaged : yes ≡ false → (nothing : FeedAnswer) → nothing ≡ nothing_yet → (r : FeedAnswer) → r ≡ stopped_by (Some Damaged) nothing → Fed s batch room r s room
   fed_damaged e nothing n r is =
-      subst (λ (x : FeedAnswer). Fed s batch room x s room) (sym (is ∙ ap (stopped_by 3) n))
+      subst (λ (x : FeedAnswer). Fed s batch room x s room) (sym (is ∙ ap (stopped_by (Some Damaged)) n))
       (record { damaged = λ bad. (nothing_done s room, refl, refl, refl); told = λ sound. absurd (checked_damaged s yes index free checked e sound) })

@@ -1,8 +1,10 @@
 -- The loop over a batch's packets. Assumes nothing.
-use Rattle.std.specs.Prelude.{ℕ, ◌+◌, ◌-◌, ◌^◌, ◌≤◌, ◌<◌, ◌≡◌, refl, Bool, true, false, List, [], ◌∷◌, ◌++◌, length, take, drop}
+use Rattle.forms.specs.declared.refusal.Refusal.{Refusal as CallRefusal}
+use Rattle.forms.specs.Refusals.{stop_number}
+use Rattle.std.specs.Prelude.{ℕ, ◌+◌, ◌-◌, ◌^◌, ◌≤◌, ◌<◌, ◌≡◌, refl, Bool, true, false, List, [], ◌∷◌, ◌++◌, length, take, drop, None, Option}
 use Rattle.std.proofs.Common.{sym, ap, ◌∙◌, subst, append-nil, arith, length-append, length-drop, length-take, drop_of_length-le, take-append-drop, take_all}
 use borrow.Rule.Slice.PartMut.{put_mid}
-use Rattle.forms.specs.Form.{Read, got, short, refused}
+use Rattle.forms.specs.Form.{Read, got}
 use Rattle.forms.specs.At.{read_at}
 use Rattle.key.specs.KeyTheorems.{key_at_least}
 use Rattle.flow.specs.declared.time.Idle.{Idle}
@@ -22,6 +24,8 @@ use Rattle.engine.specs.Batch.{parsed, form_bytes, feed_bytes, short_here, refus
 use Rattle.packet.specs.Step.{InCall}
 use Rattle.engine.specs.Feed.{FedAs, Feeding, feeding_begins, feeding_goes, feeding_refused, feeding_unread, feeding_ends}
 use Rattle.engine.specs.FeedOne.{OneAsked, Unread, OneFed, count_of}
+use Rattle.forms.specs.Form.{stop}
+use Rattle.forms.specs.declared.stop.Stop.{Stop}
 
 -- ## Sums that fit
 
@@ -55,15 +59,15 @@ pub record AllAsked (s index free leaving : List ℕ) (c : ℕ) (idle : Idle) (r
 -- ## The answer so far
 
 abbrev pub nothing_yet : FeedAnswer
-nothing_yet = record { refusal = 0; packets = 0; used = 0; opened = 0; records = 0; bytes = 0 }
+nothing_yet = record { refusal = None; packets = 0; used = 0; opened = 0; records = 0; bytes = 0 }
 
-abbrev pub stopped_by : ℕ → FeedAnswer → FeedAnswer
+abbrev pub stopped_by : Option CallRefusal → FeedAnswer → FeedAnswer
 stopped_by why r = record { refusal = why; packets = r.packets; used = r.used; opened = r.opened; records = r.records; bytes = r.bytes }
 
 abbrev pub added_to : FeedAnswer → Taken → FeedAnswer
 added_to r t =
     record {
-      refusal = 0;
+      refusal = None;
       packets = r.packets + 1;
       used = t.next;
       opened = r.opened + count_of t.step.opened;
@@ -80,7 +84,7 @@ pub record SumsFit (r : FeedAnswer) (t : Taken) : Type 0 where
 
 pub record Looping (batch s₀ out₀ index₀ free₀ leaving₀ : List ℕ) (c : ℕ) (idle : Idle) (resolution : TimeResolution) (r : FeedAnswer) (s out index free leaving : List ℕ) : Type 0 where
   pub feeding : Feeding batch s₀ out₀ r c idle resolution s out index free
-  pub going : r.refusal ≡ 0
+  pub going : stop_number r.refusal ≡ 0
   pub few : r.opened ≤ r.packets
   pub list : 4096 ≤ length leaving
   pub state_long : length s ≡ length s₀
@@ -142,7 +146,7 @@ module _ (batch s₀ out₀ index₀ free₀ leaving₀ : List ℕ) (c : ℕ) (i
             (feeding_unread batch s₀ out₀ c idle resolution r s out index free h.feeding why e (stopped_by t.step.refusal r) (f.answer ∙ m) refl refl refl refl refl))
 
         -- refused
-        pub loop_stops : (t.step.refusal ≡ 0 → ⊥)
+        pub loop_stops : (stop_number t.step.refusal ≡ 0 → ⊥)
             → FedAs (feed_bytes (settings_in s₀) (length out₀) batch (meaning s₀)) (parsed batch).packets s₀ out₀ (stopped_by t.step.refusal r) s' (put_mid r.bytes (length out - r.bytes) out part')
         loop_stops n = go (read_at packet batch r.used) refl fed
           where
@@ -153,9 +157,9 @@ module _ (batch s₀ out₀ index₀ free₀ leaving₀ : List ℕ) (c : ℕ) (i
                 feeding_refused batch s₀ out₀ c idle resolution r s out index free h.feeding p next some (packet_here batch r.used some p next q)
                 (take (length out - r.bytes) (drop r.bytes out)) (lent_rest out r.bytes) t.step s' part' index' free' f.0 n
                 (put_mid r.bytes (length out - r.bytes) out part') (rest_put out part' r.bytes) (stopped_by t.step.refusal r) refl refl refl refl refl refl
-            go short q f =
+            go (stop Stop.Short) q f =
                 unread 9 Short (short_here batch r.used some q) f refl
-            go refused q f =
+            go (stop Stop.Refused) q f =
                 unread 4 BadPacket (refused_here batch r.used some q) f refl
 
         -- taken
@@ -165,17 +169,17 @@ module _ (batch s₀ out₀ index₀ free₀ leaving₀ : List ℕ) (c : ℕ) (i
           pub within : t.next ≤ length batch
           pub sums : (length batch < 2 ^ 64) → (length out₀ < 2 ^ 64) → SumsFit r t
 
-        pub loop_goes : t.step.refusal ≡ 0 → (leaving' : List ℕ) → length s' ≡ length s → length index' ≡ length index → length free' ≡ length free
+        pub loop_goes : stop_number t.step.refusal ≡ 0 → (leaving' : List ℕ) → length s' ≡ length s → length index' ≡ length index → length free' ≡ length free
             → length leaving' ≡ length leaving → length part' ≡ length (take (length out - r.bytes) (drop r.bytes out)) → Goes leaving'
         loop_goes z leaving' ls li lf ll lo = go (read_at packet batch r.used) refl fed
           where
-            nine : {A : Type 0} (n : ℕ) → t.step.refusal ≡ n → 0 < n → A
+            nine : {A : Type 0} (n : ℕ) → stop_number t.step.refusal ≡ n → 0 < n → A
             nine n e p = absurd (omega arith)
 
             go : (x : Read Packet ℕ) → read_at packet batch r.used ≡ x
                 → OneFed x s (take (length out - r.bytes) (drop r.bytes out)) index free c idle resolution t s' part' index' free' → Goes leaving'
-            go short q f = nine 9 f.answer (omega arith)
-            go refused q f = nine 4 f.answer (omega arith)
+            go (stop Stop.Short) q f = nine 9 f.answer (omega arith)
+            go (stop Stop.Refused) q f = nine 4 f.answer (omega arith)
             go (got p next) q f =
                 let here = packet_here batch r.used some p next q in
                 let on =
@@ -210,7 +214,7 @@ module _ (batch s₀ out₀ index₀ free₀ leaving₀ : List ℕ) (c : ℕ) (i
                 }
 
         -- by what the code made of the answer
-        pub loop_stopped : (t.step.refusal ≡ 0 → ⊥) → (r' : FeedAnswer) → r' ≡ stopped_by t.step.refusal r
+        pub loop_stopped : (stop_number t.step.refusal ≡ 0 → ⊥) → (r' : FeedAnswer) → r' ≡ stopped_by t.step.refusal r
             → FedAs (feed_bytes (settings_in s₀) (length out₀) batch (meaning s₀)) (parsed batch).packets s₀ out₀ r' s' (put_mid r.bytes (length out - r.bytes) out part')
         loop_stopped n r' e =
             subst (λ (x : FeedAnswer). FedAs (feed_bytes (settings_in s₀) (length out₀) batch (meaning s₀)) (parsed batch).packets s₀ out₀ x s' (put_mid r.bytes (length out - r.bytes) out part')) (sym e) (loop_stops n)

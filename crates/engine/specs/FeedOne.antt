@@ -1,28 +1,29 @@
 -- One packet of a batch, read at its place. Assumes nothing.
-use Rattle.std.specs.Prelude.{ℕ, ◌+◌, ◌-◌, ◌≤◌, ◌<◌, ◌≡◌, refl, Bool, true, cond, List, ◌++◌, length, take, drop}
+use Rattle.forms.specs.Refusals.{refusal_number, refusal_of, stop_number}
+use Rattle.std.specs.Prelude.{ℕ, ◌+◌, ◌-◌, ◌≤◌, ◌<◌, ◌≡◌, refl, Bool, true, cond, List, ◌++◌, length, take, drop, Option, Some, Err, Ok, Result}
 use Rattle.std.proofs.Common.{sym, ap, ◌∙◌, subst, append_assoc, arith, length-append, take_at, drop-drop, drop_at}
-use Rattle.forms.specs.Form.{Read, got, short, refused}
+use Rattle.forms.specs.Form.{Read, got}
 use Rattle.forms.specs.At.{read_at}
 use Rattle.flow.specs.declared.time.Idle.{Idle}
 use Rattle.flow.specs.declared.time.TimeResolution.{TimeResolution}
 use Rattle.flow.specs.declared.record.PacketFacts.{PacketFacts}
-use Rattle.key.specs.KeyForm.{key, key_at}
+use Rattle.key.specs.KeyForm.{key}
 use Rattle.key.specs.declared.key.FlowKey.{FlowKey}
-use Rattle.key.specs.declared.form.KeyAt.{KeyAt}
-use Rattle.wire.specs.PacketForm.{facts, packet, facts_at}
-use Rattle.wire.specs.declared.packet.FactsAt.{FactsAt}
+use Rattle.wire.specs.PacketForm.{facts, packet}
 use Rattle.wire.specs.PacketLemmas.{packet_writes, facts_short, facts_refused, facts_key, facts_key_short, facts_key_refused}
 use Rattle.wire.specs.declared.packet.Packet.{Packet}
 use Rattle.plain.specs.Plain.{plain_at, key_read}
 use Rattle.plain.specs.PlainLaws.{plain_read}
 use Rattle.plain.specs.declared.Plain.{Plain}
-use Rattle.plain.specs.declared.PlainAt.{PlainAt}
 use Rattle.rules.specs.Engine.{key_bytes}
 use Rattle.engine.specs.declared.batch.Taken.{Taken}
 use Rattle.engine.specs.Batch.{Here, packet_here, ends_behind}
 use Rattle.packet.specs.declared.Step.{Step}
 use Rattle.packet.specs.Step.{InCall, PacketAsked, PacketDone}
 use Rattle.packet.specs.Steady.{SteadyAsked, SteadyTaken, quiet_step}
+use Rattle.forms.specs.Answers.{stands}
+use Rattle.forms.specs.declared.stop.Stop.{Stop}
+use Rattle.forms.specs.Form.{stop}
 
 -- a call in order, and a place within the batch
 pub record OneAsked (s index free leaving : List ℕ) (c : ℕ) (idle : Idle) (resolution : TimeResolution) (batch : List ℕ) (at : ℕ) : Type 0 where
@@ -32,7 +33,7 @@ pub record OneAsked (s index free leaving : List ℕ) (c : ℕ) (idle : Idle) (r
 
 -- nothing was done, for this refusal
 pub record Unread (number : ℕ) (s room index free : List ℕ) (r : Taken) (s' out index' free' : List ℕ) : Type 0 where
-  pub answer : r.step.refusal ≡ number
+  pub answer : stop_number r.step.refusal ≡ number
   pub state : s' ≡ s
   pub output : out ≡ room
   pub index_is : index' ≡ index
@@ -42,8 +43,8 @@ pub record Unread (number : ℕ) (s room index free : List ℕ) (r : Taken) (s' 
 abbrev pub OneFed : Read Packet ℕ → (s room index free : List ℕ) (c : ℕ) (idle : Idle) (resolution : TimeResolution) (r : Taken) (s' out index' free' : List ℕ) → Type 0
 OneFed (got p next) s room index free c idle resolution r s' out index' free' =
     PacketDone p s room c idle resolution r.step s' out index' free' × (r.next ≡ next)
-OneFed short s room index free c idle resolution r s' out index' free' = Unread 9 s room index free r s' out index' free'
-OneFed refused s room index free c idle resolution r s' out index' free' = Unread 4 s room index free r s' out index' free'
+OneFed (stop Stop.Short) s room index free c idle resolution r s' out index' free' = Unread 9 s room index free r s' out index' free'
+OneFed (stop Stop.Refused) s room index free c idle resolution r s' out index' free' = Unread 4 s room index free r s' out index' free'
 
 -- 1 for a packet that opened a flow
 abbrev pub count_of : Bool → ℕ
@@ -73,29 +74,26 @@ module _ (batch : List ℕ) (at : ℕ) (some : at < length batch) (p : Packet) (
 module _ (s index free leaving : List ℕ) (c : ℕ) (idle : Idle) (resolution : TimeResolution) (batch : List ℕ) (at : ℕ)
     (ask : OneAsked s index free leaving c idle resolution batch at) where
   -- what is refused before it is a packet
-  cut : read_at packet batch at ≡ short → (room : List ℕ) (r : Taken) → r.step.refusal ≡ 9
+  cut : read_at packet batch at ≡ stop Stop.Short → (room : List ℕ) (r : Taken) → stop_number r.step.refusal ≡ 9
       → OneFed (read_at packet batch at) s room index free c idle resolution r s room index free
   cut e room r n =
       subst (λ (x : Read Packet ℕ). OneFed x s room index free c idle resolution r s room index free) (sym e)
       (record { answer = n; state = refl; output = refl; index_is = refl; free_is = refl })
 
-  no_packet : read_at packet batch at ≡ refused → (room : List ℕ) (r : Taken) → r.step.refusal ≡ 4
+  no_packet : read_at packet batch at ≡ stop Stop.Refused → (room : List ℕ) (r : Taken) → stop_number r.step.refusal ≡ 4
       → OneFed (read_at packet batch at) s room index free c idle resolution r s room index free
   no_packet e room r n =
       subst (λ (x : Read Packet ℕ). OneFed x s room index free c idle resolution r s room index free) (sym e)
       (record { answer = n; state = refl; output = refl; index_is = refl; free_is = refl })
 
-  module _ (a : FactsAt) (first : facts_at a ≡ read_at facts batch at) where
-    pub one_facts_short : a ≡ FactsAt.Short → (room : List ℕ) (r : Taken) → r.step.refusal ≡ 9
+  module _ (a : Result (PacketFacts × ℕ) Stop) (first : stands a ≡ read_at facts batch at) where
+    pub one_facts_stopped : (why : Stop) → a ≡ Err why → (room : List ℕ) (r : Taken) → stop_number r.step.refusal ≡ refusal_number (refusal_of why)
         → OneFed (read_at packet batch at) s room index free c idle resolution r s room index free
-    one_facts_short e room r n = cut (facts_short batch at (sym first ∙ ap facts_at e)) room r n
+    one_facts_stopped Stop.Short e room r n = cut (facts_short batch at (sym first ∙ ap stands e)) room r n
+    one_facts_stopped Stop.Refused e room r n = no_packet (facts_refused batch at (sym first ∙ ap stands e)) room r n
 
-    pub one_facts_refused : a ≡ FactsAt.Refused → (room : List ℕ) (r : Taken) → r.step.refusal ≡ 4
-        → OneFed (read_at packet batch at) s room index free c idle resolution r s room index free
-    one_facts_refused e room r n = no_packet (facts_refused batch at (sym first ∙ ap facts_at e)) room r n
-
-    pub one_facts : (f : PacketFacts) (from : ℕ) → a ≡ FactsAt.Value f from → read_at facts batch at ≡ got f from
-    one_facts f from e = sym first ∙ ap facts_at e
+    pub one_facts : (f : PacketFacts) (from : ℕ) → a ≡ Ok (f, from) → read_at facts batch at ≡ got f from
+    one_facts f from e = sym first ∙ ap stands e
 
   module _ (f : PacketFacts) (from : ℕ) (facts-read : read_at facts batch at ≡ got f from) where
     -- a packet whose key was read, and where its key lies
@@ -122,18 +120,15 @@ module _ (s index free leaving : List ℕ) (c : ℕ) (idle : Idle) (resolution :
 
     -- ## The general way
 
-    module _ (b : KeyAt) (second : key_at b ≡ read_at key batch from) where
-      pub one_key_short : b ≡ KeyAt.Short → (room : List ℕ) (r : Taken) → r.step.refusal ≡ 9
+    module _ (b : Result (FlowKey × ℕ) Stop) (second : stands b ≡ read_at key batch from) where
+      pub one_key_stopped : (why : Stop) → b ≡ Err why → (room : List ℕ) (r : Taken) → stop_number r.step.refusal ≡ refusal_number (refusal_of why)
           → OneFed (read_at packet batch at) s room index free c idle resolution r s room index free
-      one_key_short h room r n = cut (facts_key_short batch at f from facts-read (sym second ∙ ap key_at h)) room r n
+      one_key_stopped Stop.Short h room r n = cut (facts_key_short batch at f from facts-read (sym second ∙ ap stands h)) room r n
+      one_key_stopped Stop.Refused h room r n = no_packet (facts_key_refused batch at f from facts-read (sym second ∙ ap stands h)) room r n
 
-      pub one_key_refused : b ≡ KeyAt.Refused → (room : List ℕ) (r : Taken) → r.step.refusal ≡ 4
-          → OneFed (read_at packet batch at) s room index free c idle resolution r s room index free
-      one_key_refused h room r n = no_packet (facts_key_refused batch at f from facts-read (sym second ∙ ap key_at h)) room r n
-
-      module _ (k : FlowKey) (next : ℕ) (h : b ≡ KeyAt.Value k next) where
+      module _ (k : FlowKey) (next : ℕ) (h : b ≡ Ok (k, next)) where
         key_got : read_at key batch from ≡ got k next
-        key_got = sym second ∙ ap key_at h
+        key_got = sym second ∙ ap stands h
 
         pub key_starts : from ≤ next
         key_starts = key_fits batch at ask.within (whole k next key_got) next (here_read k next key_got) from (start k next key_got)
@@ -152,7 +147,7 @@ module _ (s index free leaving : List ℕ) (c : ℕ) (idle : Idle) (resolution :
 
     -- ## The short way
 
-    module _ (b : PlainAt) (seen : b ≡ plain_at batch from) (x : Plain) (h : b ≡ PlainAt.Key x) where
+    module _ (b : Option Plain) (seen : b ≡ plain_at batch from) (x : Plain) (h : b ≡ Some x) where
       plain_got : read_at key batch from ≡ got (key_read batch from) x.next
       plain_got = plain_read batch from (sym seen ∙ h)
 

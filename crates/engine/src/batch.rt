@@ -1,5 +1,6 @@
 // Feeding a batch: its packets one after another, to its empty end; only a refused packet stops it.
-ghost use Rattle.std.specs.Prelude.{◌≡◌, false, ◌+◌, ◌<◌, length};
+ghost use Rattle.forms.specs.Refusals.{refusal_of};
+ghost use Rattle.std.specs.Prelude.{◌≡◌, false, ◌+◌, ◌<◌, length, Some};
 ghost use Rattle.forms.specs.Form.{got};
 ghost use Rattle.forms.specs.At.{read_at};
 ghost use Rattle.wire.specs.PacketForm.{packet, facts as factsForm};
@@ -14,11 +15,13 @@ ghost use Rattle.engine.specs.FeedLoop.{nothing_yet, stopped_by, added_to, SumsF
 use crate::FeedAnswer;
 use flow::record::PacketFacts;
 use flow::time::{Idle, TimeResolution};
-use key::form::{KeyAt, read_key_at};
+use forms::refusal::Refusal;
+use forms::stop::Stop;
+use key::form::read_key_at;
 use packet::steady::take_steady;
 use packet::{Step, one_packet};
-use plain::{PlainAt, plain_at};
-use wire::packet::{FactsAt, Packet, read_facts_at};
+use plain::plain_at;
+use wire::packet::{Packet, read_facts_at};
 use wire::record::resolution_from;
 
 // One packet of the batch: what it did, and where the next one begins.
@@ -29,12 +32,12 @@ pub struct Taken {
 }
 
 // What is refused before it is a packet.
-fn unread(number: u8, at: usize) -> Taken
-    ensures { result ≡ record { step = record { refusal = number; opened = false; records = 0; bytes = 0 }; next = at } }
+fn unread(stop: Stop, at: usize) -> Taken
+    ensures { result ≡ record { step = record { refusal = Some (refusal_of stop); opened = false; records = 0; bytes = 0 }; next = at } }
 {
     Taken {
         step: Step {
-            refusal: number,
+            refusal: Some(Refusal::from(stop)),
             opened: false,
             records: 0,
             bytes: 0,
@@ -48,7 +51,7 @@ fn nothing_done() -> Step
     ensures { result ≡ quiet_step }
 {
     Step {
-        refusal: 0,
+        refusal: None,
         opened: false,
         records: 0,
         bytes: 0,
@@ -75,7 +78,7 @@ fn feed_behind(
     ensures { OneFed (read_at packet batch.now at) state.old out.old index.old free.old capacity idle resolution result state.new out.new index.new free.new }
 {
     match read_key_at(batch, from) {
-        KeyAt::Value(key, next) => {
+        Ok((key, next)) => {
             let step = one_packet(
                 state,
                 capacity,
@@ -90,8 +93,7 @@ fn feed_behind(
             );
             Taken { step, next }
         }
-        KeyAt::Short => unread(9, at),
-        KeyAt::Refused => unread(4, at),
+        Err(stop) => unread(stop, at),
     }
 }
 
@@ -113,8 +115,8 @@ fn feed_one(
     ensures { OneFed (read_at packet batch.now at) state.old out.old index.old free.old capacity idle resolution result state.new out.new index.new free.new }
 {
     match read_facts_at(batch, at) {
-        FactsAt::Value(facts, from) => {
-            if let PlainAt::Key(key) = plain_at(batch, from) {
+        Ok((facts, from)) => {
+            if let Some(key) = plain_at(batch, from) {
                 if take_steady(state, capacity, idle, facts, batch, from, key, index) {
                     return Taken {
                         step: nothing_done(),
@@ -127,25 +129,21 @@ fn feed_one(
                 out,
             )
         }
-        FactsAt::Short => unread(9, at),
-        FactsAt::Refused => unread(4, at),
+        Err(stop) => unread(stop, at),
     }
 }
 
 fn count_of(opened: bool) -> usize
     ensures { result ≡ count_of opened }
 {
-    if opened {
-        return 1;
-    }
-    0
+    if opened { 1 } else { 0 }
 }
 
 pub(crate) fn nothing_yet() -> FeedAnswer
     ensures { result ≡ nothing_yet }
 {
     FeedAnswer {
-        refusal: 0,
+        refusal: None,
         packets: 0,
         used: 0,
         opened: 0,
@@ -155,16 +153,12 @@ pub(crate) fn nothing_yet() -> FeedAnswer
 }
 
 // What was done before a refusal stands.
-pub(crate) fn stopped(refusal: u8, before: FeedAnswer) -> FeedAnswer
-    ensures { result ≡ stopped_by refusal before }
+pub(crate) fn stopped(refusal: Refusal, before: FeedAnswer) -> FeedAnswer
+    ensures { result ≡ stopped_by (Some refusal) before }
 {
     FeedAnswer {
-        refusal: refusal,
-        packets: before.packets,
-        used: before.used,
-        opened: before.opened,
-        records: before.records,
-        bytes: before.bytes,
+        refusal: Some(refusal),
+        ..before
     }
 }
 
@@ -175,7 +169,7 @@ fn added(before: FeedAnswer, taken: Taken) -> FeedAnswer
 {
     let step = taken.step;
     FeedAnswer {
-        refusal: 0,
+        refusal: None,
         packets: before.packets + 1,
         used: taken.next,
         opened: before.opened + count_of(step.opened),
@@ -215,9 +209,8 @@ fn feed_all(
             leaving,
             &mut out[filled..],
         );
-        let step = taken.step;
-        if step.refusal != 0 {
-            return stopped(step.refusal, answer);
+        if let Some(refusal) = taken.step.refusal {
+            return stopped(refusal, answer);
         }
         answer = added(answer, taken);
     }
@@ -236,20 +229,16 @@ pub(crate) fn feed_sound(
     ensures { FedAs (feed_bytes (settings_in state.old) (length out.old) batch.now (meaning state.old)) (parsed batch.now).packets state.old out.old result state.new out.new }
 {
     let header = table::load_header(state);
-    let capacity = header.capacity as usize;
-    let timeout = header.timeout;
-    let lateness = header.lateness;
     let idle = Idle {
-        timeout: timeout,
-        lateness: lateness,
+        timeout: header.timeout,
+        lateness: header.lateness,
     };
-    let resolution = resolution_from(header.resolution);
     let mut leaving = [0u16; 4096];
     feed_all(
         state,
-        capacity,
+        header.capacity as usize,
         idle,
-        resolution,
+        resolution_from(header.resolution),
         batch,
         index,
         free,

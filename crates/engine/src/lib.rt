@@ -5,20 +5,20 @@
 pub mod batch;
 
 ghost use Rattle.state.specs.Opening.{Opened};
-ghost use Rattle.sweeps.specs.Promise.{Swept, Drained};
+ghost use Rattle.sweeps.specs.Promise.{Swept, Drained, number_in, records_in, bytes_in};
 ghost use Rattle.engine.specs.Feed.{Fed};
 
 use crate::batch::{feed_sound, nothing_yet, stopped};
 use flow::time::{Millis, Nanos, TimeResolution};
+use forms::refusal::Refusal;
 use state::check::check;
-use state::opening::Opening;
-use sweeps::sweep::Answer;
+use sweeps::sweep::HandedOut;
 
-// What feeding a batch did: the refusal's number, 0 for none; the packets taken and the bytes of the batch that they fill; the flows
+// What feeding a batch did: the refusal that stopped it, if there is one; the packets taken and the bytes of the batch that they fill; the flows
 // opened; the records written, and their bytes.
 #[derive(Clone, Copy)]
 pub struct FeedAnswer {
-    pub refusal: u8,
+    pub refusal: Option<Refusal>,
     pub packets: usize,
     pub used: usize,
     pub opened: usize,
@@ -27,7 +27,12 @@ pub struct FeedAnswer {
 }
 
 // Opens a state of a capacity, with an idle timeout and the resolution of its records' times. Refusals: 1 Capacity, 2 Memory.
-pub fn open(state: &mut [u8], capacity: u64, timeout: Millis, resolution: TimeResolution) -> Opening
+pub fn open(
+    state: &mut [u8],
+    capacity: u64,
+    timeout: Millis,
+    resolution: TimeResolution,
+) -> Result<(), Refusal>
     ensures { Opened state.old capacity timeout resolution result state.new }
 {
     state::opening::open(state, capacity, timeout, resolution)
@@ -43,19 +48,19 @@ pub fn feed(state: &mut [u8], batch: &[u8], out: &mut [u8]) -> FeedAnswer
     if check(state, &mut index, &mut free) {
         return feed_sound(state, batch, &mut index, &mut free, out);
     }
-    stopped(3, nothing_yet())
+    stopped(Refusal::Damaged, nothing_yet())
 }
 
 // Every flow that leaves at this time is handed out, by end and then key bytes. Refusals: 3 Damaged, 7 Room.
-pub fn sweep(state: &mut [u8], time: Nanos, out: &mut [u8]) -> Answer
-    ensures { Swept time.0 state.old out.old result.refusal result.records result.bytes state.new out.new }
+pub fn sweep(state: &mut [u8], time: Nanos, out: &mut [u8]) -> Result<HandedOut, Refusal>
+    ensures { Swept time.0 state.old out.old (number_in result) (records_in result) (bytes_in result) state.new out.new }
 {
     sweeps::sweep::sweep(state, time, out)
 }
 
 // Every flow is handed out, in order of key bytes; the clock stays. Refusals: 3 Damaged, 7 Room.
-pub fn drain(state: &mut [u8], out: &mut [u8]) -> Answer
-    ensures { Drained state.old out.old result.refusal result.records result.bytes state.new out.new }
+pub fn drain(state: &mut [u8], out: &mut [u8]) -> Result<HandedOut, Refusal>
+    ensures { Drained state.old out.old (number_in result) (records_in result) (bytes_in result) state.new out.new }
 {
     sweeps::drain::drain(state, out)
 }

@@ -1,35 +1,31 @@
 -- Counting (document 01): how a record opens, and what one packet adds to it.
-use Rattle.std.specs.Prelude.{ℕ, min, max, ◌+◌, ◌/◌, ◌%◌, ◌^◌, ◌<◌, Bool, cond, ◌&&◌, ◌||◌, leb, ltb, eqb}
-use Rattle.forms.specs.declared.optional.OptU8.{OptU8}
-use Rattle.forms.specs.declared.optional.OptU16.{OptU16}
-use Rattle.stats.specs.declared.range.OptRange8.{OptRange8}
-use Rattle.stats.specs.declared.range.OptRange32.{OptRange32}
+use Rattle.std.specs.Prelude.{ℕ, min, max, ◌+◌, ◌/◌, ◌%◌, ◌^◌, ◌<◌, Bool, cond, ◌&&◌, ◌||◌, leb, ltb, eqb, None, Option, Some}
 use Rattle.stats.specs.declared.counts.TcpFlagCounts.{TcpFlagCounts}
 use Rattle.stats.specs.declared.counts.DirectionStats.{DirectionStats}
 use Rattle.stats.specs.declared.counts.NetworkStats.{NetworkStats}
 use Rattle.stats.specs.declared.counts.CaptureStats.{CaptureStats}
-use Rattle.stats.specs.Range.{widened8}
+use Rattle.stats.specs.Range.{widened}
 use Rattle.stats.specs.Counting.{counted_direction, RoomForPacket}
 use Rattle.flow.specs.declared.time.Nanos.{Nanos}
 use Rattle.flow.specs.declared.time.StartState.{StartState}
 use Rattle.flow.specs.declared.time.TimeResolution.{TimeResolution}
 use Rattle.flow.specs.declared.time.EndReason.{EndReason}
-use Rattle.flow.specs.declared.time.OptEndReason.{OptEndReason}
 use Rattle.flow.specs.declared.time.FlowTime.{FlowTime}
 use Rattle.flow.specs.declared.record.Direction.{Direction}
 use Rattle.flow.specs.declared.record.PacketFacts.{PacketFacts}
 use Rattle.flow.specs.declared.record.FlowRecord.{FlowRecord}
+use Rattle.stats.specs.declared.range.Range.{Range}
 
 -- the set flags: a mask, from bit 0 fin, syn, rst, psh, ack, urg, ece, cwr, ns
-abbrev pub mask_of : OptU16 → ℕ
-mask_of OptU16.Absent = 0
-mask_of (OptU16.Present mask) = mask
+abbrev pub mask_of : Option ℕ → ℕ
+mask_of None = 0
+mask_of (Some mask) = mask
 
 abbrev pub no_flags : TcpFlagCounts
 no_flags = record { fin = 0; syn = 0; rst = 0; psh = 0; ack = 0; urg = 0; ece = 0; cwr = 0; ns = 0 }
 
 abbrev pub nothing_yet : DirectionStats
-nothing_yet = record { packets = 0; frame_octets = 0; packet_length = OptRange32.Absent; tcp_flags = no_flags }
+nothing_yet = record { packets = 0; frame_octets = 0; packet_length = None; tcp_flags = no_flags }
 
 -- "start state is NotApplicable unless protocol is 6, else SynObserved with SYN, else MidStream"
 abbrev pub start_state_of : ℕ → PacketFacts → StartState
@@ -40,7 +36,7 @@ start_state_of protocol p =
 
 -- "start and end are the packet's time"; no end reason yet
 abbrev pub opening_time : Nanos → TimeResolution → StartState → FlowTime
-opening_time at resolution state = record { start = at; end = at; resolution = resolution; start_state = state; end_reason = OptEndReason.Absent }
+opening_time at resolution state = record { start = at; end = at; resolution = resolution; start_state = state; end_reason = None }
 
 -- Counting, "opening": the resolution given, DSCP and ECN of the first packet; it is not counted here
 unfoldable pub opened_of : TimeResolution → ℕ → PacketFacts → FlowRecord
@@ -48,8 +44,8 @@ opened_of resolution protocol p = record {
   time = opening_time p.time resolution (start_state_of protocol p);
   forward = nothing_yet;
   reverse = nothing_yet;
-  network = record { ttl = OptRange8.Absent; dscp = p.dscp; ecn = p.ecn };
-  transport = record { icmp = OptU16.Absent };
+  network = record { ttl = None; dscp = p.dscp; ecn = p.ecn };
+  transport = record { icmp = None };
   capture = record { captured_octets = 0; truncated = Bool.false };
 }
 
@@ -70,16 +66,16 @@ counted_time t at mask = record {
 }
 
 -- "TTL widens if present"
-abbrev pub widened_by : OptRange8 → OptU8 → OptRange8
-widened_by range OptU8.Absent = range
-widened_by range (OptU8.Present ttl) = widened8 range ttl
+abbrev pub widened_by : Option (Range ℕ) → Option ℕ → Option (Range ℕ)
+widened_by range None = range
+widened_by range (Some ttl) = widened range ttl
 
 -- "ICMP keeps the first one present"
-abbrev pub first_of : OptU16 → OptU16 → OptU16
-first_of OptU16.Absent new = new
-first_of (OptU16.Present x) new = OptU16.Present x
+abbrev pub first_of : Option ℕ → Option ℕ → Option ℕ
+first_of None new = new
+first_of (Some x) new = Some x
 
-abbrev pub counted_network : NetworkStats → OptU8 → NetworkStats
+abbrev pub counted_network : NetworkStats → Option ℕ → NetworkStats
 counted_network n ttl = record { ttl = widened_by n.ttl ttl; dscp = n.dscp; ecn = n.ecn }
 
 -- captured is below frame
@@ -116,7 +112,7 @@ counted_of r Direction.Reverse p = counted_rest r p r.forward (taken r.reverse p
 -- the record with its end reason
 unfoldable pub closed : FlowRecord → EndReason → FlowRecord
 closed r reason = record {
-  time = record { start = r.time.start; end = r.time.end; resolution = r.time.resolution; start_state = r.time.start_state; end_reason = OptEndReason.Present reason };
+  time = record { start = r.time.start; end = r.time.end; resolution = r.time.resolution; start_state = r.time.start_state; end_reason = Some reason };
   forward = r.forward;
   reverse = r.reverse;
   network = r.network;

@@ -1,12 +1,11 @@
 -- What one packet changes of a record and what it keeps, with the counting itself left shut. Assumes nothing.
-use Rattle.std.specs.Prelude.{ℕ, zero, suc, min, max, ◌+◌, ◌%◌, ◌<◌, ◌≡◌, refl, ◌↔◌, ◌⊎◌}
+use Rattle.std.specs.Prelude.{ℕ, zero, suc, min, max, ◌+◌, ◌%◌, ◌<◌, ◌≡◌, refl, ◌↔◌, ◌⊎◌, Option, Some}
 use Rattle.std.proofs.Common.{inl, inr, ⊎_elim, arith}
 use Rattle.stats.specs.declared.counts.TcpFlagCounts.{TcpFlagCounts}
 use Rattle.stats.specs.declared.counts.DirectionStats.{DirectionStats}
 use Rattle.stats.specs.Counting.{counted_flags}
 use Rattle.flow.specs.declared.time.TimeResolution.{TimeResolution}
 use Rattle.flow.specs.declared.time.EndReason.{EndReason}
-use Rattle.flow.specs.declared.time.OptEndReason.{OptEndReason}
 use Rattle.flow.specs.declared.record.Direction.{Direction}
 use Rattle.flow.specs.declared.record.PacketFacts.{PacketFacts}
 use Rattle.flow.specs.declared.record.FlowRecord.{FlowRecord}
@@ -58,7 +57,7 @@ pub record Closes (r : FlowRecord) (reason : EndReason) (s : FlowRecord) : Type 
   pub end : s.time.end ≡ r.time.end
   pub resolution : s.time.resolution ≡ r.time.resolution
   pub state : s.time.start_state ≡ r.time.start_state
-  pub reason_set : s.time.end_reason ≡ OptEndReason.Present reason
+  pub reason_set : s.time.end_reason ≡ Some reason
   pub forward : s.forward ≡ r.forward
   pub reverse : s.reverse ≡ r.reverse
   pub network : s.network ≡ r.network

@@ -1,7 +1,5 @@
 -- Document 01's P10, of the plain rules: ACK opens at 500; a SYN at 500 gives SynObserved, at 501 MidStream. Assumes nothing.
-use Rattle.std.specs.Prelude.{ℕ, ◌≡◌, refl, [], ◌∷◌}
-use Rattle.forms.specs.declared.optional.OptU8.{OptU8}
-use Rattle.forms.specs.declared.optional.OptU16.{OptU16}
+use Rattle.std.specs.Prelude.{ℕ, ◌≡◌, refl, [], ◌∷◌, None, Option, Some}
 use Rattle.flow.specs.declared.time.TimeResolution.{TimeResolution}
 use Rattle.flow.specs.declared.time.StartState.{StartState}
 use Rattle.flow.specs.declared.record.Direction.{Direction}
@@ -15,11 +13,11 @@ packet_at time mask = record {
   time = record { 0 = time };
   frame_octets = 60;
   captured_octets = 60;
-  ttl = OptU8.Absent;
-  tcp_flags = OptU16.Present mask;
-  icmp = OptU16.Absent;
-  dscp = OptU8.Absent;
-  ecn = OptU8.Absent;
+  ttl = None;
+  tcp_flags = Some mask;
+  icmp = None;
+  dscp = None;
+  ecn = None;
 }
 
 -- the start state of a flow that an ACK at 500 opens and that then sees a SYN

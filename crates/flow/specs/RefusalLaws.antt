@@ -1,49 +1,50 @@
 -- The refusals of a packet on a host's own record: exactly when each is given, and what it leaves. Assumes nothing.
-use Rattle.std.specs.Prelude.{ℕ, ◌+◌, ◌^◌, ◌<◌, ◌≤◌, ◌≡◌, refl, Bool, true, false, cond, ◌&&◌, ◌↔◌, ◌⊎◌}
+use Rattle.std.specs.Prelude.{ℕ, ◌+◌, ◌^◌, ◌<◌, ◌≤◌, ◌≡◌, refl, Bool, true, false, cond, ◌&&◌, ◌↔◌, ◌⊎◌, Option, None, Some, Result, Ok, Err}
 use Rattle.std.proofs.Common.{ap, ◌∙◌, inl, inr, ⊎_elim, arith, ltb-false}
 use Rattle.stats.specs.Counting.{FlagsUpTo}
 use Rattle.flow.specs.declared.record.FlowRecord.{FlowRecord}
 use Rattle.flow.specs.declared.record.PacketFacts.{PacketFacts}
 use Rattle.flow.specs.declared.record.Direction.{Direction}
 use Rattle.flow.specs.declared.time.TimeResolution.{TimeResolution}
-use Rattle.flow.specs.declared.host.Refusal.{Refusal}
-use Rattle.flow.specs.declared.host.Begun.{Begun}
+use Rattle.forms.specs.declared.refusal.Refusal.{Refusal}
+use Rattle.forms.specs.Refusals.{stop_number}
 use Rattle.flow.specs.Counting.{no_flags, opened_of, counted_of, has_room, RoomToCount}
 use Rattle.flow.specs.Sound.{sound_aside}
-use Rattle.flow.specs.Observed.{number_of, packet_in_range, refusal_of, refusal_number, answer_of, observed_of, begun_of, begun_number}
+use Rattle.flow.specs.Observed.{packet_in_range, refusal_of, refusal_number, answer_of, observed_of, refusal_in, left_by, begun_of}
 use Rattle.flow.specs.Summary.{packets_of, octets_of}
 use Rattle.flow.specs.SoundLaws.{sound_facts, room_facts}
 
 -- ---- the four answers
 
 -- no refusal: a sound record, a packet in range, and room
-pub accepts : (r : FlowRecord) (p : PacketFacts) → sound_aside r ≡ true → packet_in_range p ≡ true → has_room r p ≡ true → refusal_of r p ≡ Refusal.None
+pub accepts : (r : FlowRecord) (p : PacketFacts) → sound_aside r ≡ true → packet_in_range p ≡ true → has_room r p ≡ true → refusal_of r p ≡ None
 unfolding refusal_of
 accepts r p s i h = simp (s, i, h)
 
 -- Damaged comes first
-pub damaged : (r : FlowRecord) (p : PacketFacts) → sound_aside r ≡ false → refusal_of r p ≡ Refusal.Damaged
+pub damaged : (r : FlowRecord) (p : PacketFacts) → sound_aside r ≡ false → refusal_of r p ≡ Some Refusal.Damaged
 unfolding refusal_of
 damaged r p s = simp s
 
 -- then Packet
-pub out_of_range : (r : FlowRecord) (p : PacketFacts) → sound_aside r ≡ true → packet_in_range p ≡ false → refusal_of r p ≡ Refusal.Packet
+pub out_of_range : (r : FlowRecord) (p : PacketFacts) → sound_aside r ≡ true → packet_in_range p ≡ false → refusal_of r p ≡ Some Refusal.Packet
 unfolding refusal_of
 out_of_range r p s i = simp (s, i)
 
 -- then Spent
-pub spent : (r : FlowRecord) (p : PacketFacts) → sound_aside r ≡ true → packet_in_range p ≡ true → has_room r p ≡ false → refusal_of r p ≡ Refusal.Spent
+pub spent : (r : FlowRecord) (p : PacketFacts) → sound_aside r ≡ true → packet_in_range p ≡ true → has_room r p ≡ false → refusal_of r p ≡ Some Refusal.Spent
 unfolding refusal_of
 spent r p s i h = simp (s, i, h)
 
 -- what led to each answer
-abbrev Led : Bool → Bool → Bool → Refusal → Type 0
-Led a b c Refusal.None = (a ≡ true) × (b ≡ true) × (c ≡ true)
-Led a b c Refusal.Damaged = a ≡ false
-Led a b c Refusal.Packet = (a ≡ true) × (b ≡ false)
-Led a b c Refusal.Spent = (a ≡ true) × (b ≡ true) × (c ≡ false)
+abbrev Led : Bool → Bool → Bool → Option Refusal → Type 0
+Led a b c None = (a ≡ true) × (b ≡ true) × (c ≡ true)
+Led a b c (Some Refusal.Damaged) = a ≡ false
+Led a b c (Some Refusal.Packet) = (a ≡ true) × (b ≡ false)
+Led a b c (Some Refusal.Spent) = (a ≡ true) × (b ≡ true) × (c ≡ false)
+Led a b c (Some other) = ⊥
 
-led : (a b c : Bool) → Led a b c (cond a (cond b (cond c Refusal.None Refusal.Spent) Refusal.Packet) Refusal.Damaged)
+led : (a b c : Bool) → Led a b c (cond a (cond b (cond c None (Some Refusal.Spent)) (Some Refusal.Packet)) (Some Refusal.Damaged))
 led true true true = (refl, refl, refl)
 led true true false = (refl, refl, refl)
 led true false c = (refl, refl)
@@ -59,15 +60,15 @@ pub record Accepted (r : FlowRecord) (p : PacketFacts) : Type 0 where
   pub room : has_room r p ≡ true
 
 -- no refusal only then
-pub accepted : (r : FlowRecord) (p : PacketFacts) → refusal_of r p ≡ Refusal.None → Accepted r p
+pub accepted : (r : FlowRecord) (p : PacketFacts) → refusal_of r p ≡ None → Accepted r p
 accepted r p e = let h = rw e at (led_to r p) in record { sound = h.0; in_range = h.1; room = h.2 }
 
 -- Damaged exactly when "a host's own record is not sound", end reason aside
-pub damaged_exactly : (r : FlowRecord) (p : PacketFacts) → (refusal_of r p ≡ Refusal.Damaged) ↔ (sound_aside r ≡ false)
+pub damaged_exactly : (r : FlowRecord) (p : PacketFacts) → (refusal_of r p ≡ Some Refusal.Damaged) ↔ (sound_aside r ≡ false)
 damaged_exactly r p = (λ e. rw e at (led_to r p), damaged r p)
 
 -- Packet exactly when the record is sound and "a packet given for counting has a field out of range"
-pub packet_exactly : (r : FlowRecord) (p : PacketFacts) → (refusal_of r p ≡ Refusal.Packet) ↔ ((sound_aside r ≡ true) × (packet_in_range p ≡ false))
+pub packet_exactly : (r : FlowRecord) (p : PacketFacts) → (refusal_of r p ≡ Some Refusal.Packet) ↔ ((sound_aside r ≡ true) × (packet_in_range p ≡ false))
 packet_exactly r p = (λ e. rw e at (led_to r p), λ h. out_of_range r p h.0 h.1)
 
 -- "would pass 2^64 − 1 in packets or octets of both directions together, or in captured octets"
@@ -97,7 +98,7 @@ passing : (r : FlowRecord) (p : PacketFacts) → WouldPass r p → has_room r p 
 passing r p w = not_so (has_room r p) (λ e. let h = room_facts r p e in ⊎_elim (λ a. omega arith) (⊎_elim (λ b. omega arith) (λ c. omega arith)) w)
 
 -- Spent exactly when "the record that takes the packet would pass 2^64 − 1", and neither Damaged nor Packet comes first
-pub spent_exactly : (r : FlowRecord) (p : PacketFacts) → (refusal_of r p ≡ Refusal.Spent) ↔ ((sound_aside r ≡ true) × (packet_in_range p ≡ true) × WouldPass r p)
+pub spent_exactly : (r : FlowRecord) (p : PacketFacts) → (refusal_of r p ≡ Some Refusal.Spent) ↔ ((sound_aside r ≡ true) × (packet_in_range p ≡ true) × WouldPass r p)
 spent_exactly r p = (
   λ e. let h = rw e at (led_to r p) in (h.0, h.1, no_room r p h.2),
   λ h. spent r p h.0 h.1 (passing r p h.2),
@@ -117,7 +118,7 @@ sound_with_room r p e f =
     }
 
 -- an accepted packet can be counted: no sum wraps
-pub room_to_count : (r : FlowRecord) (p : PacketFacts) → refusal_of r p ≡ Refusal.None → RoomToCount r p
+pub room_to_count : (r : FlowRecord) (p : PacketFacts) → refusal_of r p ≡ None → RoomToCount r p
 room_to_count r p e = let a = accepted r p e in sound_with_room r p a.sound a.room
 
 -- a record that is opened has room for its packet (frame and captured octets are u32)
@@ -144,48 +145,45 @@ opened_has_room resolution protocol p frame captured = record {
     }
 
 -- the answer has the refusal
-pub answers_refusal : (r : FlowRecord) (d : Direction) (p : PacketFacts) → (observed_of r d p).refusal ≡ refusal_of r p
+pub answers_refusal : (r : FlowRecord) (d : Direction) (p : PacketFacts) → refusal_in (observed_of r d p) ≡ refusal_of r p
 unfolding observed_of
-answers_refusal r d p = the_refusal (refusal_of r p) r (counted_of r d p)
+answers_refusal r d p = the_refusal (refusal_of r p) (counted_of r d p)
   where
-    the_refusal : (x : Refusal) (old new : FlowRecord) → (answer_of x old new).refusal ≡ x
-    the_refusal Refusal.None old new = refl
-    the_refusal Refusal.Damaged old new = refl
-    the_refusal Refusal.Packet old new = refl
-    the_refusal Refusal.Spent old new = refl
+    the_refusal : (x : Option Refusal) (new : FlowRecord) → refusal_in (answer_of x new) ≡ x
+    the_refusal None new = refl
+    the_refusal (Some why) new = refl
 
 -- "Damaged .., Packet or Spent, in that order, leaves it unchanged"
-pub refused_is_unchanged : (r : FlowRecord) (d : Direction) (p : PacketFacts) → (refusal_of r p ≡ Refusal.None → ⊥) → (observed_of r d p).flow ≡ r
+pub refused_is_unchanged : (r : FlowRecord) (d : Direction) (p : PacketFacts) → (refusal_of r p ≡ None → ⊥) → left_by r (observed_of r d p) ≡ r
 unfolding observed_of
 refused_is_unchanged r d p refused = kept (refusal_of r p) r (counted_of r d p) refused
   where
-    kept : (x : Refusal) (old new : FlowRecord) → (x ≡ Refusal.None → ⊥) → (answer_of x old new).flow ≡ old
-    kept Refusal.None old new refused = absurd (refused refl)
-    kept Refusal.Damaged old new refused = refl
-    kept Refusal.Packet old new refused = refl
-    kept Refusal.Spent old new refused = refl
+    kept : (x : Option Refusal) (old new : FlowRecord) → (x ≡ None → ⊥) → left_by old (answer_of x new) ≡ old
+    kept None old new refused = absurd (refused refl)
+    kept (Some why) old new refused = refl
 
 -- an accepted packet is counted
-pub accepted_is_counted : (r : FlowRecord) (d : Direction) (p : PacketFacts) → refusal_of r p ≡ Refusal.None → (observed_of r d p).flow ≡ counted_of r d p
+pub accepted_is_counted : (r : FlowRecord) (d : Direction) (p : PacketFacts) → refusal_of r p ≡ None → left_by r (observed_of r d p) ≡ counted_of r d p
 unfolding observed_of
 accepted_is_counted r d p e = simp e
 
--- the answer's number is document 01's
-pub refusal_number_lem : (r : FlowRecord) (d : Direction) (p : PacketFacts) → number_of (observed_of r d p).refusal ≡ refusal_number r p
+-- the answer's number is the rules'
+pub refusal_number_lem : (r : FlowRecord) (d : Direction) (p : PacketFacts) → stop_number (refusal_in (observed_of r d p)) ≡ refusal_number r p
 unfolding refusal_of
-refusal_number_lem r d p = ap number_of (answers_refusal r d p) ∙ by_tests (sound_aside r) (packet_in_range p) (has_room r p)
+refusal_number_lem r d p = ap stop_number (answers_refusal r d p) ∙ by_tests (sound_aside r) (packet_in_range p) (has_room r p)
   where
     by_tests : (a b c : Bool)
-        → number_of (cond a (cond b (cond c Refusal.None Refusal.Spent) Refusal.Packet) Refusal.Damaged) ≡ cond a (cond b (cond c 0 6) 4) 3
+        → stop_number (cond a (cond b (cond c None (Some Refusal.Spent)) (Some Refusal.Packet)) (Some Refusal.Damaged)) ≡ cond a (cond b (cond c 0 6) 4) 3
     by_tests true true true = refl
     by_tests true true false = refl
     by_tests true false c = refl
     by_tests false b c = refl
 
-pub begun_number_lem : (resolution : TimeResolution) (protocol : ℕ) (p : PacketFacts) → begun_number (begun_of resolution protocol p) ≡ cond (packet_in_range p) 0 4
+pub begun_number_lem : (resolution : TimeResolution) (protocol : ℕ) (p : PacketFacts)
+    → stop_number (refusal_in (begun_of resolution protocol p)) ≡ cond (packet_in_range p) 0 4
 unfolding begun_of
 begun_number_lem resolution protocol p = by_test (packet_in_range p)
   where
-    by_test : (a : Bool) → begun_number (cond a (Begun.Record (counted_of (opened_of resolution protocol p) Direction.Forward p)) Begun.Packet) ≡ cond a 0 4
+    by_test : (a : Bool) → stop_number (refusal_in (cond a (Ok (counted_of (opened_of resolution protocol p) Direction.Forward p)) (Err Refusal.Packet))) ≡ cond a 0 4
     by_test true = refl
     by_test false = refl

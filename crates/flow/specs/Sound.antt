@@ -1,12 +1,11 @@
 -- Sound record (document 01), as a test. That a field is in range is its type's to say, and so is that the TTL bounds are both present or both
 -- absent. Assumes nothing.
-use Rattle.std.specs.Prelude.{ℕ, ◌+◌, ◌^◌, Bool, true, false, ◌&&◌, ◌||◌, leb, ltb, eqb}
-use Rattle.stats.specs.declared.range.OptRange8.{OptRange8}
-use Rattle.stats.specs.declared.range.OptRange32.{OptRange32}
+use Rattle.std.specs.Prelude.{ℕ, ◌+◌, ◌^◌, Bool, true, false, ◌&&◌, ◌||◌, leb, ltb, eqb, None, Option, Some}
 use Rattle.stats.specs.declared.counts.TcpFlagCounts.{TcpFlagCounts}
 use Rattle.stats.specs.declared.counts.DirectionStats.{DirectionStats}
-use Rattle.flow.specs.declared.time.OptEndReason.{OptEndReason}
 use Rattle.flow.specs.declared.record.FlowRecord.{FlowRecord}
+use Rattle.flow.specs.declared.time.EndReason.{EndReason}
+use Rattle.stats.specs.declared.range.Range.{Range}
 
 -- "each flag count at most its packets"
 unfoldable pub sound_flags : ℕ → TcpFlagCounts → Bool
@@ -15,13 +14,13 @@ sound_flags packets c =
     && leb c.urg packets && leb c.ece packets && leb c.cwr packets && leb c.ns packets
 
 -- "a length range exactly if it has packets", "minima at most maxima"
-abbrev pub sound_length : ℕ → OptRange32 → Bool
-sound_length packets OptRange32.Absent = eqb packets 0
-sound_length packets (OptRange32.Present range) = ltb 0 packets && leb range.min range.max
+abbrev pub sound_length : ℕ → Option (Range ℕ) → Bool
+sound_length packets None = eqb packets 0
+sound_length packets (Some range) = ltb 0 packets && leb range.min range.max
 
-abbrev pub sound_ttl : OptRange8 → Bool
-sound_ttl OptRange8.Absent = true
-sound_ttl (OptRange8.Present range) = leb range.min range.max
+abbrev pub sound_ttl : Option (Range ℕ) → Bool
+sound_ttl None = true
+sound_ttl (Some range) = leb range.min range.max
 
 -- ".. without packets its octets .. are 0"
 unfoldable pub sound_direction : DirectionStats → Bool
@@ -41,9 +40,9 @@ sound_aside r =
     && ltb (r.forward.packets + r.reverse.packets) (2 ^ 64)
     && ltb (r.forward.frame_octets + r.reverse.frame_octets) (2 ^ 64)
 
-abbrev pub has_reason : OptEndReason → Bool
-has_reason OptEndReason.Absent = false
-has_reason (OptEndReason.Present reason) = true
+abbrev pub has_reason : Option EndReason → Bool
+has_reason None = false
+has_reason (Some reason) = true
 
 -- "sound record": with an end reason
 unfoldable pub sound_record : FlowRecord → Bool

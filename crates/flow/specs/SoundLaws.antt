@@ -1,12 +1,11 @@
 -- What the tests of "sound record" and of room say of the numbers, and back. Assumes nothing.
-use Rattle.std.specs.Prelude.{ℕ, ◌+◌, ◌-◌, ◌^◌, ◌<◌, ◌≤◌, min, ◌≡◌, refl, Bool, true, false, ◌&&◌, ◌||◌, ltb, eqb}
+use Rattle.std.specs.Prelude.{ℕ, ◌+◌, ◌-◌, ◌^◌, ◌<◌, ◌≤◌, min, ◌≡◌, refl, Bool, true, false, ◌&&◌, ◌||◌, ltb, eqb, None, Option, Some}
 use Rattle.std.proofs.lemmas.Bool.{false≢true}
 use Rattle.std.proofs.Common.{arith, leb-true, ltb-true, lt-ltb, le-leb}
 use Rattle.stats.specs.declared.counts.TcpFlagCounts.{TcpFlagCounts}
 use Rattle.stats.specs.declared.counts.DirectionStats.{DirectionStats}
 use Rattle.stats.specs.Counting.{FlagsUpTo}
 use Rattle.flow.specs.declared.time.EndReason.{EndReason}
-use Rattle.flow.specs.declared.time.OptEndReason.{OptEndReason}
 use Rattle.flow.specs.declared.record.FlowRecord.{FlowRecord}
 use Rattle.flow.specs.declared.record.PacketFacts.{PacketFacts}
 use Rattle.flow.specs.Counting.{has_room}
@@ -130,13 +129,13 @@ octets_is_sum r e = let s = sound_facts r e in omega arith
 -- ---- a sound record has an end reason
 
 -- "sound record" with its end reason
-pub sound_record_facts : (r : FlowRecord) → sound_record r ≡ true → (sound_aside r ≡ true) × ((reason : EndReason) × (r.time.end_reason ≡ OptEndReason.Present reason))
+pub sound_record_facts : (r : FlowRecord) → sound_record r ≡ true → (sound_aside r ≡ true) × ((reason : EndReason) × (r.time.end_reason ≡ Some reason))
 unfolding sound_record
 sound_record_facts r e = let h = both _ _ e in (h.0, the_reason r.time.end_reason h.1)
   where
-    the_reason : (o : OptEndReason) → has_reason o ≡ true → (reason : EndReason) × (o ≡ OptEndReason.Present reason)
-    the_reason OptEndReason.Absent h = absurd (false≢true h)
-    the_reason (OptEndReason.Present reason) h = (reason, refl)
+    the_reason : (o : Option EndReason) → has_reason o ≡ true → (reason : EndReason) × (o ≡ Some reason)
+    the_reason None h = absurd (false≢true h)
+    the_reason (Some reason) h = (reason, refl)
 
 -- ---- room for a packet
 

@@ -4,4 +4,5 @@
 pub mod host;
 pub mod record;
 pub mod sound;
+pub mod sums;
 pub mod time;

@@ -3,32 +3,30 @@ ghost use Rattle.std.specs.Prelude.{◌≡◌, min, ◌+◌, ◌-◌, ◌^◌, �
 ghost use Rattle.stats.specs.Counting.{RoomForPacket};
 ghost use Rattle.flow.specs.Counting.{mask_of, is_truncated, first_of, widened_by, counted_network, counted_capture, counted_rest, taken, counted_of, start_state_of, nothing_yet, opened_of, closed, both_ways, has_room, RoomToCount};
 
-use crate::time::{EndReason, FlowTime, Nanos, OptEndReason, StartState, TimeResolution};
-use arith::{fits2, fits3, saturating_add};
-use forms::optional::{OptU8, OptU16};
+use crate::sums::{fits_three, fits_two};
+use crate::time::{EndReason, FlowTime, Nanos, StartState, TimeResolution};
 use stats::counts::{CaptureStats, DirectionStats, NetworkStats, TcpFlagCounts, TransportStats};
-use stats::range;
-use stats::range::{OptRange8, OptRange32};
+use stats::range::Range;
 
 // Which direction of a flow a packet travelled: that of the flow's first packet, or the other one.
-#[derive(Clone, Copy)]
+#[derive(Clone, Copy, Debug, PartialEq, Eq)]
 pub enum Direction {
     Forward,
     Reverse,
 }
 
 // One packet's contribution to a flow. TCP flags are a mask of nine bits, ICMP is 256 times its type plus its code.
-#[derive(Clone, Copy)]
+#[derive(Clone, Copy, Debug, PartialEq, Eq)]
 pub struct PacketFacts {
     pub time: Nanos,
     // Length on the wire, and length actually captured, which is smaller when the capture cut the packet short.
     pub frame_octets: u32,
     pub captured_octets: u32,
-    pub ttl: OptU8,
-    pub tcp_flags: OptU16,
-    pub icmp: OptU16,
-    pub dscp: OptU8,
-    pub ecn: OptU8,
+    pub ttl: Option<u8>,
+    pub tcp_flags: Option<u16>,
+    pub icmp: Option<u16>,
+    pub dscp: Option<u8>,
+    pub ecn: Option<u8>,
 }
 
 impl PacketFacts {
@@ -41,7 +39,7 @@ impl PacketFacts {
 }
 
 // What a flow accumulated. Totals are derived, not stored: a total that cannot be written cannot drift.
-#[derive(Clone, Copy)]
+#[derive(Clone, Copy, Debug, PartialEq, Eq)]
 pub struct FlowRecord {
     pub time: FlowTime,
     pub forward: DirectionStats,
@@ -51,33 +49,28 @@ pub struct FlowRecord {
     pub capture: CaptureStats,
 }
 
-// The set flags; none where there are no flags.
-pub fn mask_of(flags: OptU16) -> u64
+/// The set flags; none where there are no flags.
+pub fn mask_of(flags: Option<u16>) -> u64
     ensures { result ≡ mask_of flags }
 {
-    match flags {
-        OptU16::Absent => 0,
-        OptU16::Present(mask) => mask as u64,
-    }
+    flags.unwrap_or(0) as u64
 }
 
-// The first that is present.
-pub fn first_of(kept: OptU16, new: OptU16) -> OptU16
+/// The first that is present.
+pub fn first_of(kept: Option<u16>, new: Option<u16>) -> Option<u16>
     ensures { result ≡ first_of kept new }
 {
-    match kept {
-        OptU16::Absent => new,
-        OptU16::Present(x) => OptU16::Present(x),
-    }
+    kept.or(new)
 }
 
 // TTL widens if present.
-fn widened_by(ttl: OptRange8, value: OptU8) -> OptRange8
+#[tactic(auto, using(stats::proofs::Numbers::widened_is))]
+fn widened_by(ttl: Option<Range<u8>>, value: Option<u8>) -> Option<Range<u8>>
     ensures { result ≡ widened_by ttl value }
 {
     match value {
-        OptU8::Absent => ttl,
-        OptU8::Present(x) => range::observe8(ttl, x),
+        None => ttl,
+        Some(x) => Range::observe(ttl, x),
     }
 }
 
@@ -91,20 +84,17 @@ pub fn counted_capture(c: CaptureStats, packet: PacketFacts) -> CaptureStats
     }
 }
 
-pub fn counted_network(n: NetworkStats, value: OptU8) -> NetworkStats
+pub fn counted_network(n: NetworkStats, value: Option<u8>) -> NetworkStats
     ensures { result ≡ counted_network n value }
 {
-    let ttl = n.ttl;
-    let dscp = n.dscp;
-    let ecn = n.ecn;
     NetworkStats {
-        ttl: widened_by(ttl, value),
-        dscp: dscp,
-        ecn: ecn,
+        ttl: widened_by(n.ttl, value),
+        ..n
     }
 }
 
 // Everything but the directions' own counts.
+#[tactic(auto, unfolding(crate::specs::Counting::counted_rest))]
 fn counted_rest(
     record: FlowRecord,
     packet: PacketFacts,
@@ -114,61 +104,56 @@ fn counted_rest(
     requires { RoomToCount «record» packet }
     ensures { result ≡ counted_rest «record» packet forward reverse }
 {
-    let time = record.time;
-    let at = packet.time;
-    let flags = packet.tcp_flags;
-    let network = record.network;
-    let ttl = packet.ttl;
-    let transport = record.transport;
-    let kept = transport.icmp;
-    let icmp = packet.icmp;
-    let capture = record.capture;
     FlowRecord {
-        time: time.observe(at, mask_of(flags)),
-        forward: forward,
-        reverse: reverse,
-        network: counted_network(network, ttl),
+        time: record.time.observe(packet.time, mask_of(packet.tcp_flags)),
+        forward,
+        reverse,
+        network: counted_network(record.network, packet.ttl),
         transport: TransportStats {
-            icmp: first_of(kept, icmp),
+            icmp: first_of(record.transport.icmp, packet.icmp),
         },
-        capture: counted_capture(capture, packet),
+        capture: counted_capture(record.capture, packet),
     }
 }
 
+#[tactic(auto, unfolding(crate::specs::Counting::taken))]
 fn take(d: DirectionStats, packet: PacketFacts) -> DirectionStats
     requires { RoomForPacket d packet.frame_octets }
     ensures { result ≡ taken d packet }
 {
-    let flags = packet.tcp_flags;
-    d.observe(packet.frame_octets, mask_of(flags))
+    d.observe(packet.frame_octets, mask_of(packet.tcp_flags))
 }
 
-// Whether the record has room for the packet: no count would pass 2^64 − 1.
+/// Whether the record has room for the packet: no count would pass 2^64 − 1.
+#[tactic(auto, unfolding(crate::specs::Counting::has_room))]
 pub fn has_room(record: FlowRecord, packet: PacketFacts) -> bool
     ensures { result ≡ has_room «record» packet }
 {
-    let forward = record.forward;
-    let reverse = record.reverse;
-    let capture = record.capture;
-    fits3(forward.packets, reverse.packets, 1)
-        & fits3(
-            forward.frame_octets,
-            reverse.frame_octets,
+    fits_three(record.forward.packets, record.reverse.packets, 1)
+        & fits_three(
+            record.forward.frame_octets,
+            record.reverse.frame_octets,
             packet.frame_octets as u64,
         )
-        & fits2(capture.captured_octets, packet.captured_octets as u64)
+        & fits_two(
+            record.capture.captured_octets,
+            packet.captured_octets as u64,
+        )
 }
 
-// The record with the packet counted in its direction.
+/// The record with the packet counted in its direction.
+#[tactic(auto, unfolding(crate::specs::Counting::counted_of))]
 pub fn counted_on(record: FlowRecord, direction: Direction, packet: PacketFacts) -> FlowRecord
     requires { RoomToCount «record» packet }
     ensures { result ≡ counted_of «record» direction packet }
 {
-    let forward = record.forward;
-    let reverse = record.reverse;
     match direction {
-        Direction::Forward => counted_rest(record, packet, take(forward, packet), reverse),
-        Direction::Reverse => counted_rest(record, packet, forward, take(reverse, packet)),
+        Direction::Forward => {
+            counted_rest(record, packet, take(record.forward, packet), record.reverse)
+        }
+        Direction::Reverse => {
+            counted_rest(record, packet, record.forward, take(record.reverse, packet))
+        }
     }
 }
 
@@ -176,16 +161,13 @@ pub fn counted_on(record: FlowRecord, direction: Direction, packet: PacketFacts)
 fn start_state(protocol: u8, packet: PacketFacts) -> StartState
     ensures { result ≡ start_state_of protocol packet }
 {
-    let flags = packet.tcp_flags;
-    let mask = mask_of(flags);
-    if protocol == 6 {
-        if mask / 2 % 2 == 1 {
-            StartState::SynObserved
-        } else {
-            StartState::MidStream
-        }
+    if protocol != 6 {
+        return StartState::NotApplicable;
+    }
+    if mask_of(packet.tcp_flags) / 2 % 2 == 1 {
+        StartState::SynObserved
     } else {
-        StartState::NotApplicable
+        StartState::MidStream
     }
 }
 
@@ -195,7 +177,7 @@ fn nothing_yet() -> DirectionStats
     DirectionStats {
         packets: 0,
         frame_octets: 0,
-        packet_length: OptRange32::Absent,
+        packet_length: None,
         tcp_flags: TcpFlagCounts {
             fin: 0,
             syn: 0,
@@ -211,25 +193,21 @@ fn nothing_yet() -> DirectionStats
 }
 
 impl FlowRecord {
-    // Open a flow for the first packet seen on it. The packet is not counted here: it is counted like any other, once.
+    /// Open a flow for the first packet seen on it. The packet is not counted here: it is counted like any other, once.
+    #[tactic(auto, unfolding(crate::specs::Counting::opened_of))]
     pub fn open(resolution: TimeResolution, protocol: u8, packet: PacketFacts) -> FlowRecord
         ensures { result ≡ opened_of resolution protocol packet }
     {
-        let at = packet.time;
-        let dscp = packet.dscp;
-        let ecn = packet.ecn;
         FlowRecord {
-            time: FlowTime::opening(at, resolution, start_state(protocol, packet)),
+            time: FlowTime::opening(packet.time, resolution, start_state(protocol, packet)),
             forward: nothing_yet(),
             reverse: nothing_yet(),
             network: NetworkStats {
-                ttl: OptRange8::Absent,
-                dscp: dscp,
-                ecn: ecn,
+                ttl: None,
+                dscp: packet.dscp,
+                ecn: packet.ecn,
             },
-            transport: TransportStats {
-                icmp: OptU16::Absent,
-            },
+            transport: TransportStats { icmp: None },
             capture: CaptureStats {
                 captured_octets: 0,
                 truncated: false,
@@ -237,60 +215,40 @@ impl FlowRecord {
         }
     }
 
-    // The record with why the flow ended.
+    /// The record with why the flow ended.
+    #[tactic(auto, unfolding(crate::specs::Counting::closed))]
     pub fn close(self, reason: EndReason) -> FlowRecord
         ensures { result ≡ closed self reason }
     {
-        let time = self.time;
-        let start = time.start;
-        let end = time.end;
-        let resolution = time.resolution;
-        let start_state = time.start_state;
-        let forward = self.forward;
-        let reverse = self.reverse;
-        let network = self.network;
-        let transport = self.transport;
-        let capture = self.capture;
         FlowRecord {
             time: FlowTime {
-                start: start,
-                end: end,
-                resolution: resolution,
-                start_state: start_state,
-                end_reason: OptEndReason::Present(reason),
+                end_reason: Some(reason),
+                ..self.time
             },
-            forward: forward,
-            reverse: reverse,
-            network: network,
-            transport: transport,
-            capture: capture,
+            ..self
         }
     }
 
-    // Packets in both directions; held at the largest number, which a sound record never reaches by a sum.
+    /// Packets in both directions; held at the largest number, which a sound record never reaches by a sum.
     pub fn packets(self) -> u64
         ensures { result ≡ min (self.forward.packets + self.reverse.packets) (2 ^ 64 - 1) }
     {
-        let forward = self.forward;
-        let reverse = self.reverse;
-        saturating_add(forward.packets, reverse.packets)
+        self.forward.packets.saturating_add(self.reverse.packets)
     }
 
-    // Wire bytes in both directions, held likewise.
+    /// Wire bytes in both directions, held likewise.
     pub fn frame_octets(self) -> u64
         ensures { result ≡ min (self.forward.frame_octets + self.reverse.frame_octets) (2 ^ 64 - 1) }
     {
-        let forward = self.forward;
-        let reverse = self.reverse;
-        saturating_add(forward.frame_octets, reverse.frame_octets)
+        self.forward
+            .frame_octets
+            .saturating_add(self.reverse.frame_octets)
     }
 
-    // Whether traffic was seen in both directions.
+    /// Whether traffic was seen in both directions.
     pub fn is_bidirectional(self) -> bool
         ensures { result ≡ both_ways self }
     {
-        let forward = self.forward;
-        let reverse = self.reverse;
-        (0 < forward.packets) & (0 < reverse.packets)
+        (0 < self.forward.packets) & (0 < self.reverse.packets)
     }
 }

@@ -4,16 +4,14 @@ ghost use Rattle.std.specs.Prelude.{◌≡◌, ◌-◌};
 ghost use Rattle.flow.specs.Counting.{start_state_after, counted_time, opening_time};
 ghost use Rattle.flow.specs.Idle.{idle_of};
 
-use arith::{greater64, lesser64, million_times, saturating_sub};
-
-#[derive(Clone, Copy)]
+#[derive(Clone, Copy, Debug, PartialEq, Eq, PartialOrd, Ord)]
 pub struct Millis(pub u64);
 
-#[derive(Clone, Copy)]
+#[derive(Clone, Copy, Debug, PartialEq, Eq, PartialOrd, Ord)]
 pub struct Nanos(pub u64);
 
 // How long a flow may idle and how late a packet may be, both in nanoseconds. A timeout of 0 is none.
-#[derive(Clone, Copy)]
+#[derive(Clone, Copy, Debug, PartialEq, Eq)]
 pub struct Idle {
     pub timeout: Nanos,
     pub lateness: Nanos,
@@ -29,23 +27,23 @@ impl Idle {
     pub fn from_timeout(timeout: Millis) -> Idle
         ensures { result ≡ idle_of timeout }
     {
-        let nanos = million_times(timeout.0);
+        let nanos = timeout.0.saturating_mul(1_000_000);
         Idle {
             timeout: Nanos(nanos),
-            lateness: Nanos(lesser64(Idle::MAX_LATENESS, nanos / 2)),
+            lateness: Nanos(Idle::MAX_LATENESS.min(nanos / 2)),
         }
     }
 }
 
 // The finest interval a capture source could distinguish: microseconds, or finer.
-#[derive(Clone, Copy)]
+#[derive(Clone, Copy, Debug, PartialEq, Eq)]
 pub enum TimeResolution {
     Microseconds,
     Nanoseconds,
 }
 
 // How a flow began.
-#[derive(Clone, Copy)]
+#[derive(Clone, Copy, Debug, PartialEq, Eq)]
 pub enum StartState {
     // A TCP handshake was observed from the start.
     SynObserved,
@@ -56,7 +54,7 @@ pub enum StartState {
 }
 
 // Why a flow stopped being tracked.
-#[derive(Clone, Copy)]
+#[derive(Clone, Copy, Debug, PartialEq, Eq)]
 pub enum EndReason {
     IdleTimeout,
     Fin,
@@ -64,20 +62,14 @@ pub enum EndReason {
     CaptureEnd,
 }
 
-#[derive(Clone, Copy)]
-pub enum OptEndReason {
-    Absent,
-    Present(EndReason),
-}
-
 // When a flow started and stopped, and what those events were. The end reason is absent while the flow is open.
-#[derive(Clone, Copy)]
+#[derive(Clone, Copy, Debug, PartialEq, Eq)]
 pub struct FlowTime {
     pub start: Nanos,
     pub end: Nanos,
     pub resolution: TimeResolution,
     pub start_state: StartState,
-    pub end_reason: OptEndReason,
+    pub end_reason: Option<EndReason>,
 }
 
 impl StartState {
@@ -86,15 +78,8 @@ impl StartState {
         ensures { result ≡ start_state_after self early_syn }
     {
         match self {
-            StartState::SynObserved => StartState::SynObserved,
-            StartState::MidStream => {
-                if early_syn {
-                    StartState::SynObserved
-                } else {
-                    StartState::MidStream
-                }
-            }
-            StartState::NotApplicable => StartState::NotApplicable,
+            StartState::MidStream if early_syn => StartState::SynObserved,
+            state => state,
         }
     }
 }
@@ -106,9 +91,9 @@ impl FlowTime {
         FlowTime {
             start: at,
             end: at,
-            resolution: resolution,
-            start_state: start_state,
-            end_reason: OptEndReason::Absent,
+            resolution,
+            start_state,
+            end_reason: None,
         }
     }
 
@@ -117,18 +102,12 @@ impl FlowTime {
     pub fn observe(self, at: Nanos, mask: u64) -> FlowTime
         ensures { result ≡ counted_time self at mask }
     {
-        let start = self.start;
-        let end = self.end;
-        let state = self.start_state;
-        let resolution = self.resolution;
-        let end_reason = self.end_reason;
-        let early_syn = (mask / 2 % 2 == 1) & (at.0 <= start.0);
+        let early_syn = (mask / 2 % 2 == 1) & (at.0 <= self.start.0);
         FlowTime {
-            start: Nanos(lesser64(start.0, at.0)),
-            end: Nanos(greater64(end.0, at.0)),
-            resolution: resolution,
-            start_state: state.after(early_syn),
-            end_reason: end_reason,
+            start: Nanos(self.start.0.min(at.0)),
+            end: Nanos(self.end.0.max(at.0)),
+            start_state: self.start_state.after(early_syn),
+            ..self
         }
     }
 
@@ -136,8 +115,6 @@ impl FlowTime {
     pub fn duration(self) -> Nanos
         ensures { result.0 ≡ self.end.0 - self.start.0 }
     {
-        let start = self.start;
-        let end = self.end;
-        Nanos(saturating_sub(end.0, start.0))
+        Nanos(self.end.0.saturating_sub(self.start.0))
     }
 }

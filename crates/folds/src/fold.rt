@@ -1,288 +1,170 @@
-// Our own lines for packets that are counted on a record: `f RESOLUTION REASON DIRECTIONS PACKETS RECORD`.
-use crate::cuts::{cuts_of, record_cuts_short};
-use crate::made::{Made, fault, uncut};
+//! Our own lines for packets that are counted on a record: `f RESOLUTION REASON DIRECTIONS PACKETS RECORD`.
+use crate::cuts::record_cuts;
+use crate::kind::Counted;
 use crate::{packets, records};
-use flow::host::{Begun, Refusal, begin, observed};
-use flow::record::{Direction, FlowRecord};
-use flow::time::{EndReason, OptEndReason, TimeResolution};
-use listing::fields::{Hex, field, parse_hex, part};
-use listing::line::{put, unreadable};
-use wire::packet::{Packet, PacketAt, read_packet_at};
-use wire::record::{Flow, ReadRecord, read_record};
+use flow::host::{begin, observed};
+use flow::record::Direction;
+use flow::time::{EndReason, TimeResolution};
+use forms::stop::Stop;
+use listing::fields::{field, parse_hex};
+use listing::list::Unanswered;
+use listing::tally::Tally;
+use std::alloc::Global;
+use std::io::Write;
+use wire::packet::{Packet, read_packet_at};
+use wire::record::{Flow, read_record};
 
-// The flow that the packets so far make, if they make one.
-#[derive(Clone, Copy)]
-enum Held {
-    Nothing,
-    Flow(Flow),
-    Fault,
+// The most bytes of packets that a line has.
+const MOST_BATCH: usize = 1024;
+
+// A packet that makes no flow, or that a flow refuses.
+#[derive(Debug, Clone, Copy, PartialEq, Eq)]
+struct NotCounted;
+
+// The flow that the packets so far make, if there were any.
+type Held = Result<Option<Flow>, NotCounted>;
+
+/// Our line for packets and the record that the list has for them. Nothing is taken from that record: it is only compared with.
+pub fn read(alloc: Global, line: &[u8], tally: &mut Tally<Counted>) -> Result<Vec<u8>, Unanswered> {
+    let digits: Vec<u8> = field(line, 4)
+        .iter()
+        .copied()
+        .filter(|digit| *digit != b',')
+        .collect(alloc)?;
+    let batch = parse_hex(alloc, digits.as_slice(), MOST_BATCH)?;
+    let record = parse_hex(alloc, field(line, 5), records::MOST_BYTES)?;
+    tally.add(Counted::Cuts, known_cuts(record.as_slice())?);
+    let resolution = resolution_named(field(line, 1)).ok_or(Unanswered::UNREADABLE)?;
+    let mut ours = Vec::new(alloc);
+    write!(ours, "f")?;
+    for number in 1..=3 {
+        write!(ours, " ")?;
+        ours.write_all(field(line, number))?;
+    }
+    match fold(&mut ours, field(line, 3), resolution, batch.as_slice())? {
+        Ok(None) => write!(ours, " no packets")?,
+        Ok(Some(flow)) => put_closed(&mut ours, flow, reason_named(field(line, 2)))?,
+        Err(NotCounted) => write!(ours, " a packet is not counted")?,
+    }
+    Ok(ours)
 }
 
-// How far the packets are counted: where the next one stands in the batch, and where our line ends.
-#[derive(Clone, Copy)]
-struct Folding {
-    held: Held,
-    at: usize,
-    end: usize,
-}
-
-// Our line for packets and the record that the list has for them.
-pub fn read(line: &[u8], out: &mut [u8]) -> Made {
-    let mut digits = [0u8; 4096];
-    let mut batch = [0u8; 1024];
-    let mut record = [0u8; 512];
-    let n = without_commas(field(line, 4), &mut digits);
-    let Hex::Bytes(packets_end) = parse_hex(part(&digits, 0, n), &mut batch) else {
-        return uncut(unreadable(line, out));
+// How many cuts the list's record has, which is first judged by itself.
+fn known_cuts(record: &[u8]) -> Result<u64, Unanswered> {
+    let Ok((known, used)) = read_record(record) else {
+        return Err(Unanswered::Because("a record is not read"));
     };
-    let Hex::Bytes(record_end) = parse_hex(field(line, 5), &mut record) else {
-        return uncut(unreadable(line, out));
-    };
-    put_read(
-        line,
-        out,
-        part(&batch, 0, packets_end),
-        part(&record, 0, record_end),
-    )
+    let is_form = used == record.len() && records::is_written_as(known, record);
+    let cuts = if is_form { record_cuts(record) } else { None };
+    cuts.ok_or(Unanswered::Because("a record is not read whole, written back, or Short where cut"))
 }
 
-// The packets' digits one behind another, as a batch has the packets.
-fn without_commas(s: &[u8], out: &mut [u8]) -> usize {
-    let mut at: usize = 0;
-    let mut i: usize = 0;
-    while i < s.len() {
-        at = put_digit(out, at, s[i]);
-        i += 1;
+fn resolution_named(name: &[u8]) -> Option<TimeResolution> {
+    match name {
+        b"0" => Some(TimeResolution::Microseconds),
+        b"1" => Some(TimeResolution::Nanoseconds),
+        _ => None,
     }
-    at
 }
 
-fn put_digit(out: &mut [u8], at: usize, digit: u8) -> usize {
-    if digit == b',' {
-        return at;
+fn reason_named(name: &[u8]) -> Option<EndReason> {
+    match name {
+        b"idletimeout" => Some(EndReason::IdleTimeout),
+        b"fin" => Some(EndReason::Fin),
+        b"rst" => Some(EndReason::Rst),
+        b"captureend" => Some(EndReason::CaptureEnd),
+        _ => None,
     }
-    let digits = [digit];
-    put(out, at, &digits)
 }
 
-// The list's record is first judged by itself.
-fn put_read(line: &[u8], out: &mut [u8], batch: &[u8], record: &[u8]) -> Made {
-    let ReadRecord::Value(known, used) = read_record(record) else {
-        return fault(line, out, b"a record is not read: ");
-    };
-    if is_form_of(record, known, used) {
-        return Made {
-            end: put_fold(line, out, batch),
-            cuts: cuts_of(record),
-        };
-    }
-    fault(
-        line,
-        out,
-        b"a record is not read whole, written back, or Short where cut: ",
-    )
-}
-
-// Whether all of the bytes were read, the record is written back as they are, and each cut of them is Short.
-fn is_form_of(bytes: &[u8], known: Flow, used: usize) -> bool {
-    (used == bytes.len()) & records::is_written_as(known, bytes) & record_cuts_short(bytes)
-}
-
-// The end reason that the list names; none for another name, and a record without one is not written.
-fn reason_named(name: &[u8]) -> OptEndReason {
-    if check::same(name, b"idletimeout") {
-        return OptEndReason::Present(EndReason::IdleTimeout);
-    }
-    if check::same(name, b"fin") {
-        return OptEndReason::Present(EndReason::Fin);
-    }
-    if check::same(name, b"rst") {
-        return OptEndReason::Present(EndReason::Rst);
-    }
-    if check::same(name, b"captureend") {
-        return OptEndReason::Present(EndReason::CaptureEnd);
-    }
-    OptEndReason::Absent
-}
-
-// The line's letter and its fields in front of the packets: where they end in `out`.
-fn put_asked(line: &[u8], out: &mut [u8]) -> usize {
-    let at = put(out, 0, b"f ");
-    let at = put(out, at, field(line, 1));
-    let at = put(out, at, b" ");
-    let at = put(out, at, field(line, 2));
-    let at = put(out, at, b" ");
-    put(out, at, field(line, 3))
-}
-
-// Nothing is taken from the list's record: it is only compared with.
-fn put_fold(line: &[u8], out: &mut [u8], batch: &[u8]) -> usize {
-    let resolution = field(line, 1);
-    let reason = reason_named(field(line, 2));
-    let directions = field(line, 3);
-    let at = put_asked(line, out);
-    if check::same(resolution, b"0") {
-        return put_folded(
-            directions,
-            TimeResolution::Microseconds,
-            batch,
-            out,
-            at,
-            reason,
-        );
-    }
-    if check::same(resolution, b"1") {
-        return put_folded(
-            directions,
-            TimeResolution::Nanoseconds,
-            batch,
-            out,
-            at,
-            reason,
-        );
-    }
-    unreadable(line, out)
-}
-
-fn put_folded(
-    directions: &[u8],
-    resolution: TimeResolution,
-    batch: &[u8],
-    out: &mut [u8],
-    from: usize,
-    reason: OptEndReason,
-) -> usize {
-    let folding = fold(directions, resolution, batch, out, from);
-    let held = folding.held;
-    let end = folding.end;
-    match held {
-        Held::Nothing => put(out, end, b" no packets"),
-        Held::Flow(flow) => put_closed(out, end, flow, reason),
-        Held::Fault => put(out, end, b" a packet is not counted"),
+fn direction_named(letter: u8) -> Option<Direction> {
+    match letter {
+        b'f' => Some(Direction::Forward),
+        b'r' => Some(Direction::Reverse),
+        _ => None,
     }
 }
 
 // Counts each packet in its direction, and puts each packet's form behind our line.
 fn fold(
+    ours: &mut Vec<u8>,
     directions: &[u8],
     resolution: TimeResolution,
     batch: &[u8],
-    out: &mut [u8],
-    from: usize,
-) -> Folding {
-    let mut folding = Folding {
-        held: Held::Nothing,
-        at: 0,
-        end: from,
-    };
-    let mut i: usize = 0;
-    while i < directions.len() {
-        folding = fold_one(directions[i], resolution, batch, out, folding);
-        i += 1;
+) -> Result<Held, Unanswered> {
+    let mut held = Ok(None);
+    let mut at = 0;
+    for letter in directions {
+        match read_packet_at(batch, at) {
+            Ok((packet, next)) => {
+                put_packet(ours, held, packet)?;
+                held = held.and_then(|flow| counted(flow, *letter, resolution, packet).map(Some));
+                at = next;
+            }
+            Err(Stop::Short) => {
+                held = Err(NotCounted);
+                write!(ours, " a packet is Short")?;
+            }
+            Err(Stop::Refused) => {
+                held = Err(NotCounted);
+                write!(ours, " a packet is refused")?;
+            }
+        }
     }
-    folding
-}
-
-fn fold_one(
-    letter: u8,
-    resolution: TimeResolution,
-    batch: &[u8],
-    out: &mut [u8],
-    before: Folding,
-) -> Folding {
-    let at = before.at;
-    let end = before.end;
-    let held = before.held;
-    match read_packet_at(batch, at) {
-        PacketAt::Value(packet, next) => Folding {
-            held: counted(held, letter, resolution, packet),
-            at: next,
-            end: put_packet(out, end, held, packet),
-        },
-        PacketAt::Short => Folding {
-            held: Held::Fault,
-            at: at,
-            end: put(out, end, b" a packet is Short"),
-        },
-        PacketAt::Refused => Folding {
-            held: Held::Fault,
-            at: at,
-            end: put(out, end, b" a packet is refused"),
-        },
-    }
+    Ok(held)
 }
 
 // A space before the first packet, a comma before each other.
-fn put_packet(out: &mut [u8], end: usize, held: Held, packet: Packet) -> usize {
+fn put_packet(ours: &mut Vec<u8>, held: Held, packet: Packet) -> Result<(), Unanswered> {
     match held {
-        Held::Nothing => packets::put_form(out, end, b" ", packet),
-        Held::Flow(_) => packets::put_form(out, end, b",", packet),
-        Held::Fault => end,
-    }
-}
-
-fn counted(held: Held, letter: u8, resolution: TimeResolution, packet: Packet) -> Held {
-    match held {
-        Held::Nothing => begun(letter, resolution, packet),
-        Held::Flow(flow) => counted_on(flow, letter, packet),
-        Held::Fault => Held::Fault,
+        Ok(None) => packets::put_form(ours, " ", packet),
+        Ok(Some(_)) => packets::put_form(ours, ",", packet),
+        Err(NotCounted) => Ok(()),
     }
 }
 
 // The first packet is forward.
-fn begun(letter: u8, resolution: TimeResolution, packet: Packet) -> Held {
-    let facts = packet.facts;
+fn counted(
+    held: Option<Flow>,
+    letter: u8,
+    resolution: TimeResolution,
+    packet: Packet,
+) -> Result<Flow, NotCounted> {
+    let direction = direction_named(letter).ok_or(NotCounted)?;
+    match (held, direction) {
+        (None, Direction::Forward) => begun(resolution, packet),
+        (None, Direction::Reverse) => Err(NotCounted),
+        (Some(flow), _) => counted_on(flow, direction, packet),
+    }
+}
+
+fn begun(resolution: TimeResolution, packet: Packet) -> Result<Flow, NotCounted> {
     let key = packet.key;
-    if letter != b'f' {
-        return Held::Fault;
-    }
-    match begin(resolution, key.protocol, facts) {
-        Begun::Record(record) => Held::Flow(Flow {
-            key: key,
-            record: record,
-        }),
-        Begun::Packet => Held::Fault,
+    match begin(resolution, key.protocol, packet.facts) {
+        Ok(record) => Ok(Flow { key, record }),
+        Err(_) => Err(NotCounted),
     }
 }
 
-fn counted_on(flow: Flow, letter: u8, packet: Packet) -> Held {
-    match letter {
-        b'f' => counted_towards(flow, Direction::Forward, packet),
-        b'r' => counted_towards(flow, Direction::Reverse, packet),
-        _ => Held::Fault,
-    }
-}
-
-fn counted_towards(flow: Flow, direction: Direction, packet: Packet) -> Held {
-    let key = flow.key;
-    let before = flow.record;
-    let facts = packet.facts;
-    let answer = observed(before, direction, facts);
-    let refusal = answer.refusal;
-    let record = answer.flow;
-    match refusal {
-        Refusal::None => Held::Flow(Flow {
-            key: key,
-            record: record,
+fn counted_on(flow: Flow, direction: Direction, packet: Packet) -> Result<Flow, NotCounted> {
+    match observed(flow.record, direction, packet.facts) {
+        Ok(record) => Ok(Flow {
+            key: flow.key,
+            record,
         }),
-        Refusal::Damaged => Held::Fault,
-        Refusal::Packet => Held::Fault,
-        Refusal::Spent => Held::Fault,
+        Err(_) => Err(NotCounted),
     }
 }
 
 // The flow's record, closed, behind our line.
-fn put_closed(out: &mut [u8], end: usize, flow: Flow, reason: OptEndReason) -> usize {
-    let key = flow.key;
-    let open: FlowRecord = flow.record;
-    match reason {
-        OptEndReason::Absent => put(out, end, b" no end reason"),
-        OptEndReason::Present(present) => {
-            let closed = Flow {
-                key: key,
-                record: open.close(present),
-            };
-            records::put_form(out, end, b" ", closed)
-        }
-    }
+fn put_closed(ours: &mut Vec<u8>, flow: Flow, reason: Option<EndReason>) -> Result<(), Unanswered> {
+    let Some(reason) = reason else {
+        write!(ours, " no end reason")?;
+        return Ok(());
+    };
+    let closed = Flow {
+        key: flow.key,
+        record: flow.record.close(reason),
+    };
+    records::put_form(ours, " ", closed)
 }

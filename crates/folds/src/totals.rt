@@ -1,42 +1,25 @@
-// Our own lines for what is derived from a record: `t RECORD PACKETS OCTETS BOTHWAYS DURATION`.
-use crate::made::{Made, fault, uncut};
-use flow::record::FlowRecord;
-use listing::fields::{Hex, field, parse_hex, part};
-use listing::line::{put, put_decimal, put_hex, unreadable};
-use wire::record::{Flow, ReadRecord, read_record};
+//! Our own lines for what is derived from a record: `t RECORD PACKETS OCTETS BOTHWAYS DURATION`.
+use crate::records::MOST_BYTES;
+use listing::fields::{field, parse_hex};
+use listing::line::Hex;
+use listing::list::Unanswered;
+use std::alloc::Global;
+use std::io::Write;
+use wire::record::read_record;
 
-pub fn read(line: &[u8], out: &mut [u8]) -> Made {
-    let mut bytes = [0u8; 512];
-    let Hex::Bytes(n) = parse_hex(field(line, 1), &mut bytes) else {
-        return uncut(unreadable(line, out));
+pub fn read(alloc: Global, line: &[u8]) -> Result<Vec<u8>, Unanswered> {
+    let asked = parse_hex(alloc, field(line, 1), MOST_BYTES)?;
+    let Ok((flow, _)) = read_record(asked.as_slice()) else {
+        return Err(Unanswered::Because("a record is not read"));
     };
-    let asked = part(&bytes, 0, n);
-    match read_record(asked) {
-        ReadRecord::Value(flow, _) => put_record(out, asked, flow),
-        ReadRecord::Record => fault(line, out, b"a record is not read: "),
-        ReadRecord::Short => fault(line, out, b"a record is not read: "),
-    }
-}
-
-fn put_record(out: &mut [u8], asked: &[u8], flow: Flow) -> Made {
     let record = flow.record;
-    let at = put_hex(out, 0, b"t ", asked);
-    uncut(put_totals(out, at, record))
-}
-
-fn put_totals(out: &mut [u8], at: usize, record: FlowRecord) -> usize {
     let time = record.time;
-    let duration = time.duration();
-    let at = put_decimal(out, at, b" ", record.packets());
-    let at = put_decimal(out, at, b" ", record.frame_octets());
-    let at = put_both_ways(out, at, record.is_bidirectional());
-    put_decimal(out, at, b" ", duration.0)
-}
-
-fn put_both_ways(out: &mut [u8], at: usize, both_ways: bool) -> usize {
-    if both_ways {
-        put(out, at, b" 1")
-    } else {
-        put(out, at, b" 0")
-    }
+    let duration = time.duration().0;
+    let packets = record.packets();
+    let octets = record.frame_octets();
+    let both_ways = u8::from(record.is_bidirectional());
+    let hex = Hex(asked.as_slice());
+    let mut ours = Vec::new(alloc);
+    write!(ours, "t {hex} {packets} {octets} {both_ways} {duration}")?;
+    Ok(ours)
 }

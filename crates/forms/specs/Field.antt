@@ -2,122 +2,34 @@
 use Prim.Native.Nat.{ℕ, zero, suc, ◌+◌, ◌*◌, ◌/◌, ◌%◌, ◌^◌, ◌<◌, ◌≤◌}
 use Rattle.std.proofs.Common.{pow-suc, mul-le-mul_right, add-one, ◌∙◌, arith}
 use Rattle.std.proofs.Math.Nat.{pow-le-pow_right}
-use Rattle.std.specs.Prelude.{length, get_or, ◌≡◌, List, ◌∷◌, Bool, true, false, cond}
+use Rattle.std.specs.Prelude.{length, ◌≡◌, List, ◌∷◌, true, cond}
 use Rattle.std.proofs.Math.Path.{refl, sym, ap}
-use Rattle.forms.specs.Form.{Form, Read, got, short, refused, and_then, only, one, ok, over, follow, pair, byte, raw, raw_one, raw_more, raw_undo, Alt, has, find, choice}
-use Rattle.forms.specs.Number.{number, number_below}
-use Rattle.forms.specs.At.{read_at, at_one, at_follow, at_over, at_pair, at_choice, at_only, at_inside, at_valid, byte_at, byte_end}
-use Rattle.forms.specs.Answers.{number_at}
-use Rattle.forms.specs.declared.field.Next.{Next}
-use Rattle.forms.specs.declared.field.Next.TheVariants.{At, Short, Refused}
-use Rattle.forms.specs.declared.number.NumberAt.{NumberAt}
-use Rattle.forms.specs.declared.number.NumberAt.TheVariants.{Value}
-use Rattle.forms.specs.declared.field.NumberField.{NumberField}
+use Rattle.forms.specs.Form.{Form, Read, got, and_then, only, over, follow, pair, byte, raw, raw_one, raw_more, raw_undo, Alt, has, find, choice}
+use Rattle.forms.specs.At.{read_at, at_follow, at_over, at_pair, at_choice, at_only, at_inside}
+use Rattle.forms.specs.declared.stop.Stop.{Stop}
+use Rattle.forms.specs.Form.{stop}
+
+-- where the next field begins, or why there is none
+pub data Next : Type 0 where
+  At : ℕ → Next
+  Short : Next
+  Refused : Next
 
 -- what a field's value and the next place say
 abbrev pub answer : {A : Type 0} → A → Next → Read A ℕ
 answer a (At i) = got a i
-answer a Short = short
-answer a Refused = refused
+answer a Short = stop Stop.Short
+answer a Refused = stop Stop.Refused
 
 -- what is read from where the field before ended
 abbrev pub read_from : {A : Type 0} → Form A → List ℕ → Next → Read A ℕ
 read_from f s (At i) = read_at f s i
-read_from f s Short = short
-read_from f s Refused = refused
+read_from f s Short = stop Stop.Short
+read_from f s Refused = stop Stop.Refused
 
 -- reading the form f from n₀ gives a, and n₁ is next
 pub record Taken {A : Type 0} (f : Form A) (s : List ℕ) (n₀ : Next) (a : A) (n₁ : Next) : Type 0 where
   pub reads : answer a n₁ ≡ read_from f s n₀
-
--- where nothing was read, the value is `none`
-abbrev pub Unread : {A : Type 0} → A → Next → A → Type 0
-Unread none (At i) a = Unit
-Unread none Short a = a ≡ none
-Unread none Refused a = a ≡ none
-
--- reading the form f from n₀ gives a, or `none` where there is nothing to read, and n₁ is next
-pub record TakenOr {A : Type 0} (none : A) (f : Form A) (s : List ℕ) (n₀ : Next) (a : A) (n₁ : Next) : Type 0 where
-  pub takes : Taken f s n₀ a n₁
-  pub nothing : Unread none n₁ a
-
--- the same of a number, 0 where there is nothing to read, and at most `most`
-pub record NumberTaken (f : Form ℕ) (most : ℕ) (s : List ℕ) (n₀ : Next) (r : NumberField) : Type 0 where
-  pub fits : r.value ≤ most
-  pub takes : Taken f s n₀ r.value r.next
-  pub nothing : Unread 0 r.next r.value
-
--- what is next behind a tag that stands for nothing
-abbrev pub refuse : Next → Next
-refuse (At i) = Refused
-refuse Short = Short
-refuse Refused = Refused
-
--- ---- one field
-
--- no number, and why
-abbrev pub no_number : Next → NumberField
-no_number n = record { value = 0; next = n }
-
--- the field that a number's answer makes
-abbrev pub field_of : NumberAt → NumberField
-field_of (Value v i) = record { value = v; next = At i }
-field_of NumberAt.Short = no_number Short
-field_of NumberAt.Refused = no_number Refused
-
-module _ (n : NumberAt) where
-  pub field_value : (v i : ℕ) → n ≡ Value v i → record { value = v; next = At i } ≡ field_of n
-  field_value v i e = rw e
-
-  pub field_short : (r : NumberField) → n ≡ NumberAt.Short → r ≡ no_number Short → r ≡ field_of n
-  field_short r e h = rw (e, h)
-
-  pub field_refused : (r : NumberField) → n ≡ NumberAt.Refused → r ≡ no_number Refused → r ≡ field_of n
-  field_refused r e h = rw (e, h)
-
--- nothing was left to read, or the field before failed: that is passed on
-module _ {f : Form ℕ} {most : ℕ} {s : List ℕ} {next : Next} {r : NumberField} where
-  none_short : read_from f s next ≡ short → r ≡ no_number Short → NumberTaken f most s next r
-  none_short e h = rw h (record { fits = omega arith; takes = record { reads = sym e }; nothing = refl })
-
-  none_refused : read_from f s next ≡ refused → r ≡ no_number Refused → NumberTaken f most s next r
-  none_refused e h = rw h (record { fits = omega arith; takes = record { reads = sym e }; nothing = refl })
-
-  pub passed_short : next ≡ Short → r ≡ no_number Short → NumberTaken f most s next r
-  passed_short e h = none_short (rw e) h
-
-  pub passed_refused : next ≡ Refused → r ≡ no_number Refused → NumberTaken f most s next r
-  passed_refused e h = none_refused (rw e) h
-
--- a number's answer at the place where the field before ended
-pub number_taken : (s : List ℕ) (next : Next) (most at : ℕ) (n : NumberAt) (r : NumberField) → next ≡ At at → number_at n ≡ read_at (number most) s at → r ≡ field_of n
-    → NumberTaken (number most) most s next r
-number_taken s next most at n r here says made = rw made (go n says)
-  where
-    go : (n : NumberAt) → number_at n ≡ read_at (number most) s at → NumberTaken (number most) most s next (field_of n)
-    go (Value v i) reads =
-        record { fits = number_below most v (at_valid (number most) s at v i (sym reads)); takes = record { reads = rw here reads }; nothing = tt }
-    go NumberAt.Short reads = none_short (rw here (sym reads)) refl
-    go NumberAt.Refused reads = none_refused (rw here (sym reads)) refl
-
--- a byte there
-module _ (s : List ℕ) (next : Next) (at : ℕ) (here : next ≡ At at) where
-  pub byte_got : (b : ℕ) → at < length s → b ≡ get_or s at 0 → b < 256 → NumberTaken byte 255 s next (record { value = b; next = At (at + 1) })
-  byte_got b h e w = record { fits = omega arith; takes = record { reads = rw here (byte_at s at b h e w) }; nothing = tt }
-
-  pub byte_short : length s ≤ at → (r : NumberField) → r ≡ no_number Short → NumberTaken byte 255 s next r
-  byte_short h r e = none_short (rw here (sym (byte_end s at h))) e
-
--- what the first field says, once it is known what is next
-module _ {A : Type 0} {f : Form A} {s : List ℕ} {at : ℕ} {next : Next} {a : A} (t : Taken f s (At at) a next) where
-  pub taken_got : (i : ℕ) → next ≡ At i → got a i ≡ read_at f s at
-  taken_got i e = rw e at t.reads
-
-  pub taken_short : next ≡ Short → short ≡ read_at f s at
-  taken_short e = rw e at t.reads
-
-  pub taken_refused : next ≡ Refused → refused ≡ read_at f s at
-  taken_refused e = rw e at t.reads
 
 -- ---- one field after another
 
@@ -188,38 +100,9 @@ only_taken {A} {K} a {f} {s} {n₀} {n₁} {k} p = record { reads = go n₁ p.re
 
 -- ---- one of several forms, by a tag
 
--- a byte that passes a test, and one that does not
-module _ (test : ℕ → Bool) (some : ℕ) (h : ok test some ≡ true) {s : List ℕ} {n₀ n₁ : Next} {t : ℕ} (tag : Taken byte s n₀ t n₁) where
-  pass : ℕ → ℕ → Read ℕ ℕ
-  pass b i = cond (test b) (got b i) refused
-
-  one_start : (n : Next) → read_from (one test some h) s n ≡ and_then (read_from byte s n) pass
-  unfolding pass
-  one_start (At i) = at_one test some h s i
-  one_start Short = refl
-  one_start Refused = refl
-
-  pub one_taken : test t ≡ true → Taken (one test some h) s n₀ t n₁
-  unfolding pass
-  one_taken e = record { reads = onward n₁ ∙ ap (λ (r : Read ℕ ℕ). and_then r pass) tag.reads ∙ sym (one_start n₀) }
-    where
-      onward : (n : Next) → answer t n ≡ and_then (answer t n) pass
-      onward (At i) = rw e
-      onward Short = refl
-      onward Refused = refl
-
-  pub one_none : test t ≡ false → (v : ℕ) → Taken (one test some h) s n₀ v (refuse n₁)
-  unfolding pass
-  one_none e v = record { reads = onward n₁ ∙ ap (λ (r : Read ℕ ℕ). and_then r pass) tag.reads ∙ sym (one_start n₀) }
-    where
-      onward : (n : Next) → answer v (refuse n) ≡ and_then (answer t n) pass
-      onward (At i) = rw e
-      onward Short = refl
-      onward Refused = refl
-
 module _ {A : Type 0} (tag_of : A → ℕ) (x : Alt tag_of) (xs : List (Alt tag_of)) {s : List ℕ} {n₀ n₁ : Next} {t : ℕ} (tag : Taken byte s n₀ t n₁) where
   after : ℕ → ℕ → Read A ℕ
-  after t i = cond (has tag_of (x ∷ xs) t) (read_at (find tag_of x.form (x ∷ xs) t) s i) refused
+  after t i = cond (has tag_of (x ∷ xs) t) (read_at (find tag_of x.form (x ∷ xs) t) s i) (stop Stop.Refused)
 
   choice_start : (n : Next) → read_from (choice tag_of x xs) s n ≡ and_then (read_from byte s n) after
   unfolding after
@@ -233,16 +116,6 @@ module _ {A : Type 0} (tag_of : A → ℕ) (x : Alt tag_of) (xs : List (Alt tag_
   choice_taken k h e q = record { reads = q.reads ∙ onward n₁ ∙ ap (λ (r : Read ℕ ℕ). and_then r after) (rw e at tag.reads) ∙ sym (choice_start n₀) }
     where
       onward : (n : Next) → read_from (find tag_of x.form (x ∷ xs) k) s n ≡ and_then (answer k n) after
-      onward (At i) = rw h
-      onward Short = refl
-      onward Refused = refl
-
-  -- the tag is none of them
-  pub choice_none : has tag_of (x ∷ xs) t ≡ false → (a : A) → Taken (choice tag_of x xs) s n₀ a (refuse n₁)
-  unfolding after
-  choice_none h a = record { reads = onward n₁ ∙ ap (λ (r : Read ℕ ℕ). and_then r after) tag.reads ∙ sym (choice_start n₀) }
-    where
-      onward : (n : Next) → answer a (refuse n) ≡ and_then (answer t n) after
       onward (At i) = rw h
       onward Short = refl
       onward Refused = refl

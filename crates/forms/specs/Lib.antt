@@ -4,11 +4,14 @@ pub mod At
 pub mod Put
 pub mod Length
 pub mod Lone
+pub mod Refusals
 pub mod Answers
 pub mod Field
 pub mod Raw
 pub mod Loop
 pub mod Nine
 pub mod Optional
+pub mod Numbers
+pub mod NumberLaws
 pub mod Theorems
 pub mod Examples

@@ -1,12 +1,12 @@
 -- One form read from a buffer, and one written into it, with document 01's refusals.
-use Rattle.std.specs.Prelude.{ℕ, ◌≤◌, ◌<◌, ◌≡◌, refl, List, [], ◌∷◌, ◌++◌, Bool, true, false, cond, leb, length, drop}
+use Rattle.std.specs.Prelude.{ℕ, ◌≤◌, ◌<◌, ◌≡◌, refl, List, [], ◌∷◌, ◌++◌, Bool, true, false, cond, leb, length, drop, Option, Some}
 use Rattle.std.proofs.Common.{ap, arith, le-leb}
 use Rattle.std.proofs.lemmas.Bool.{lt-leb}
-use Rattle.forms.specs.Form.{Form, Read, got, short, refused}
+use Rattle.forms.specs.Form.{Form, Read, got}
 use Rattle.forms.specs.At.{read_at}
 use Rattle.forms.specs.Put.{Put, put_front}
-use Rattle.forms.specs.declared.place.Place.{Place}
-use Rattle.forms.specs.declared.place.Place.TheVariants.{At}
+use Rattle.forms.specs.Form.{stop}
+use Rattle.forms.specs.declared.stop.Stop.{Stop}
 
 -- ---- reading
 
@@ -18,8 +18,8 @@ pub data Answer (A : Type 0) : Type 0 where
 -- 9 is Short; `other`, the refusal of what has no such form, is 4 (Packet), for a record 8 (Record)
 abbrev pub answered : {A : Type 0} → ℕ → Read A ℕ → Answer A
 answered other (got a used) = value a used
-answered other short = refusal 9
-answered other refused = refusal other
+answered other (stop Stop.Short) = refusal 9
+answered other (stop Stop.Refused) = refusal other
 
 -- "Reading one form from an empty buffer answers 4, for a record 8."
 abbrev pub read_one : {A : Type 0} → ℕ → Form A → List ℕ → Answer A
@@ -47,7 +47,7 @@ module _ (other : ℕ) (allowed : Bool) (bytes out : List ℕ) where
   pub no_room : allowed ≡ true → (n : ℕ) → n ≡ length bytes → length out < n → (unwritten 7, out) ≡ write_one other allowed bytes out
   no_room e n l h = rw (e, lt-leb (length bytes) (length out) (omega arith))
 
-  pub wrote_front : allowed ≡ true → (n : ℕ) {after : List ℕ} {r : Place} → n ≡ length bytes → n ≤ length out → Put out (At 0) bytes after r
+  pub wrote_front : allowed ≡ true → (n : ℕ) {after : List ℕ} {r : Option ℕ} → n ≡ length bytes → n ≤ length out → Put out (Some 0) bytes after r
       → (wrote n, after) ≡ write_one other allowed bytes out
   wrote_front e n l h p =
       let fits : length bytes ≤ length out = omega arith in

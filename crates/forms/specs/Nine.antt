@@ -1,8 +1,8 @@
 -- A number of nine groups, read at once: the eight before the last have more behind them, and the last is not 0.
 use Rattle.std.specs.Prelude.{ℕ, ◌+◌, ◌-◌, ◌*◌, ◌/◌, ◌≤◌, ◌<◌, ◌≡◌, refl, Bool, true, false, ◌&&◌, List, ltb, leb, length, get_or}
-use Rattle.std.proofs.Common.{sym, ap, ◌∙◌, arith, le-leb, ltb-true, leb-true}
+use Rattle.std.proofs.Common.{sym, ◌∙◌, arith, le-leb, ltb-true, leb-true}
 use Rattle.std.proofs.lemmas.Bool.{lt-leb}
-use Rattle.forms.specs.Form.{Read, got}
+use Rattle.forms.specs.Form.{got}
 use Rattle.forms.specs.Number.{number, number_reads}
 use Rattle.forms.specs.At.{read_at}
 use Rattle.forms.specs.Loop.{Reading, reading_start, reading_next, reading_last}

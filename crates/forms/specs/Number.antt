@@ -1,7 +1,9 @@
 -- The number form: groups of seven bits, the low group first, the top bit set while more follow, the shortest form only.
 use Rattle.std.specs.Prelude.{ℕ, zero, suc, ◌+◌, ◌-◌, ◌*◌, ◌/◌, ◌%◌, ◌≤◌, ◌<◌, ◌≡◌, refl, List, [], ◌∷◌, ◌++◌, Bool, true, false, cond, ◌&&◌, ◌⊎◌, ltb, leb}
 use Rattle.std.proofs.Common.{sym, ap, ◌∙◌, inl, inr, arith, ltb-true, ltb-false, leb-true, lt-ltb, le-ltb, le-leb}
-use Rattle.forms.specs.Form.{Form, Read, got, short, refused, and_then, and_then-got, and_then-short, and_then-refused}
+use Rattle.forms.specs.Form.{Form, Read, got, and_then, and_then-got, and_then-short, and_then-refused}
+use Rattle.forms.specs.Form.{stop}
+use Rattle.forms.specs.declared.stop.Stop.{Stop}
 
 -- the groups of v, of which there are at most k + 1
 unfoldable pub groups : ℕ → ℕ → List ℕ
@@ -51,10 +53,10 @@ abbrev pub raise : {R : Type 0} → ℕ → Read ℕ R → Read ℕ R
 raise b r = and_then r (λ v rest. got (b - 128 + 128 * v) rest)
 
 abbrev pub step : {R : Type 0} → ℕ → ℕ → ℕ → R → Read ℕ R → Read ℕ R
-step least most b rest more = cond (within least most b) (cond (ltb b 128) (got b rest) (raise b more)) refused
+step least most b rest more = cond (within least most b) (cond (ltb b 128) (got b rest) (raise b more)) (stop Stop.Refused)
 
 unfoldable pub read_groups : ℕ → ℕ → List ℕ → Read ℕ (List ℕ)
-read_groups least most [] = short
+read_groups least most [] = stop Stop.Short
 read_groups least most (b ∷ s) = step least most b s (read_groups 1 ((most - b) / 128 + 1) s)
 
 within_true : (least most b : ℕ) → within least most b ≡ true → (b < 256) × (least ≤ b) × (b ≤ most)
@@ -87,7 +89,7 @@ module _ {R : Type 0} (least most b : ℕ) (rest : R) (more : Read ℕ R) where
   pub step_more : within least most b ≡ true → 128 ≤ b → step least most b rest more ≡ raise b more
   step_more w h = rw (w, le-ltb b 128 h)
 
-  pub step_out : within least most b ≡ false → step least most b rest more ≡ refused
+  pub step_out : within least most b ≡ false → step least most b rest more ≡ stop Stop.Refused
   step_out w = rw w
 
   abbrev Last : ℕ → R → Type 0
@@ -99,7 +101,7 @@ module _ {R : Type 0} (least most b : ℕ) (rest : R) (more : Read ℕ R) where
   step_got : (v : ℕ) (u : R) → step least most b rest more ≡ got v u → (within least most b ≡ true) × (Last v u ⊎ More v u)
   step_got v u e = go (within least most b) refl (ltb b 128) refl e
     where
-      go : (p : Bool) → within least most b ≡ p → (q : Bool) → ltb b 128 ≡ q → cond p (cond q (got b rest) (raise b more)) refused ≡ got v u
+      go : (p : Bool) → within least most b ≡ p → (q : Bool) → ltb b 128 ≡ q → cond p (cond q (got b rest) (raise b more)) (stop Stop.Refused) ≡ got v u
           → (within least most b ≡ true) × (Last v u ⊎ More v u)
       go true w true l h = (w, inl (ltb-true b 128 l, cc, cc))
       go true w false l h =
@@ -107,28 +109,28 @@ module _ {R : Type 0} (least most b : ℕ) (rest : R) (more : Read ℕ R) where
           (w, inr (x, ltb-false b 128 l, cc, cc))
       go false w q l h = let z : ◌≡◌ {A = ℕ} 0 1 = cc in absurd (omega arith)
 
-  step_short : step least most b rest more ≡ short → (within least most b ≡ true) × (128 ≤ b) × (more ≡ short)
+  step_short : step least most b rest more ≡ stop Stop.Short → (within least most b ≡ true) × (128 ≤ b) × (more ≡ stop Stop.Short)
   step_short e = go (within least most b) refl (ltb b 128) refl e
     where
-      inner : (more ≡ short) ⊎ ((a : ℕ) × (u : R) × (more ≡ got a u) × (got (b - 128 + 128 * a) u ≡ short)) → more ≡ short
+      inner : (more ≡ stop Stop.Short) ⊎ ((a : ℕ) × (u : R) × (more ≡ got a u) × (got (b - 128 + 128 * a) u ≡ stop Stop.Short)) → more ≡ stop Stop.Short
       inner (inl h) = h
       inner (inr h) = let k = h.3 in let z : ◌≡◌ {A = ℕ} 0 1 = cc in absurd (omega arith)
 
-      go : (p : Bool) → within least most b ≡ p → (q : Bool) → ltb b 128 ≡ q → cond p (cond q (got b rest) (raise b more)) refused ≡ short
-          → (within least most b ≡ true) × (128 ≤ b) × (more ≡ short)
+      go : (p : Bool) → within least most b ≡ p → (q : Bool) → ltb b 128 ≡ q → cond p (cond q (got b rest) (raise b more)) (stop Stop.Refused) ≡ stop Stop.Short
+          → (within least most b ≡ true) × (128 ≤ b) × (more ≡ stop Stop.Short)
       go true w true l h = let z : ◌≡◌ {A = ℕ} 0 1 = cc in absurd (omega arith)
       go true w false l h = (w, ltb-false b 128 l, inner (and_then-short more (λ v rest. got (b - 128 + 128 * v) rest) h))
       go false w q l h = let z : ◌≡◌ {A = ℕ} 0 1 = cc in absurd (omega arith)
 
-  step_refused : step least most b rest more ≡ refused → (within least most b ≡ false) ⊎ ((within least most b ≡ true) × (128 ≤ b) × (more ≡ refused))
+  step_refused : step least most b rest more ≡ stop Stop.Refused → (within least most b ≡ false) ⊎ ((within least most b ≡ true) × (128 ≤ b) × (more ≡ stop Stop.Refused))
   step_refused e = go (within least most b) refl (ltb b 128) refl e
     where
-      inner : (more ≡ refused) ⊎ ((a : ℕ) × (u : R) × (more ≡ got a u) × (got (b - 128 + 128 * a) u ≡ refused)) → more ≡ refused
+      inner : (more ≡ stop Stop.Refused) ⊎ ((a : ℕ) × (u : R) × (more ≡ got a u) × (got (b - 128 + 128 * a) u ≡ stop Stop.Refused)) → more ≡ stop Stop.Refused
       inner (inl h) = h
       inner (inr h) = let k = h.3 in let z : ◌≡◌ {A = ℕ} 0 1 = cc in absurd (omega arith)
 
-      go : (p : Bool) → within least most b ≡ p → (q : Bool) → ltb b 128 ≡ q → cond p (cond q (got b rest) (raise b more)) refused ≡ refused
-          → (within least most b ≡ false) ⊎ ((within least most b ≡ true) × (128 ≤ b) × (more ≡ refused))
+      go : (p : Bool) → within least most b ≡ p → (q : Bool) → ltb b 128 ≡ q → cond p (cond q (got b rest) (raise b more)) (stop Stop.Refused) ≡ stop Stop.Refused
+          → (within least most b ≡ false) ⊎ ((within least most b ≡ true) × (128 ≤ b) × (more ≡ stop Stop.Refused))
       go true w true l h = let z : ◌≡◌ {A = ℕ} 0 1 = cc in absurd (omega arith)
       go true w false l h = inr (w, ltb-false b 128 l, inner (and_then-refused more (λ v rest. got (b - 128 + 128 * v) rest) h))
       go false w q l h = inl w
@@ -139,7 +141,7 @@ small_there least most v rest s a h =
     rw (bytes_small v s) (step_last least most v rest (read_groups 1 ((most - v) / 128 + 1) rest) (is_within least most v (omega arith) a h) s)
 
 -- k bounds how deep the groups go
-groups_there : (k least most v : ℕ) (rest : List ℕ) → v ≤ k → least ≤ 1 → least ≤ v → v ≤ most → read_groups least most (number_bytes v ++ rest) ≡ got v rest
+pub groups_there : (k least most v : ℕ) (rest : List ℕ) → v ≤ k → least ≤ 1 → least ≤ v → v ≤ most → read_groups least most (number_bytes v ++ rest) ≡ got v rest
 unfolding read_groups
 groups_there zero least most v rest f l a h = small_there least most v rest (omega arith) a h
 groups_there (suc k) least most v rest f l a h =
@@ -177,7 +179,7 @@ groups_back least most (b ∷ s) v rest e = go (step_got least most b s more v r
         let (l, m, e) = ih w r in
         (omega arith, omega arith, rw (p, bytes_step b w h x l) (ap (λ (l : List ℕ). b ∷ l) e))
 
-groups_begins : (least most : ℕ) (s : List ℕ) → least ≤ 1 → least ≤ most → read_groups least most s ≡ short
+pub groups_begins : (least most : ℕ) (s : List ℕ) → least ≤ 1 → least ≤ most → read_groups least most s ≡ stop Stop.Short
     → (v : ℕ) × (t : List ℕ) × (least ≤ v) × (v ≤ most) × (s ++ t ≡ number_bytes v)
 unfolding read_groups
 groups_begins least most [] l h e = (least, number_bytes least, omega arith, h, refl)
@@ -188,7 +190,7 @@ groups_begins least most (b ∷ s) l h e =
     let (v, u, p, q, w) = groups_begins 1 ((most - b) / 128 + 1) s (omega arith) (omega arith) r in
     (b - 128 + 128 * v, u, omega arith, omega arith, rw (bytes_step b v k x p) (ap (λ (l : List ℕ). b ∷ l) w))
 
-groups_stays : (least most : ℕ) (s t : List ℕ) → read_groups least most s ≡ refused → read_groups least most (s ++ t) ≡ refused
+pub groups_stays : (least most : ℕ) (s t : List ℕ) → read_groups least most s ≡ stop Stop.Refused → read_groups least most (s ++ t) ≡ stop Stop.Refused
 unfolding read_groups
 groups_stays least most [] t e = let z : ◌≡◌ {A = ℕ} 0 1 = cc in absurd (omega arith)
 groups_stays least most (b ∷ s) t e = go (step_refused least most b s (next s) e) (λ h. groups_stays 1 ((most - b) / 128 + 1) s t h)
@@ -196,12 +198,12 @@ groups_stays least most (b ∷ s) t e = go (step_refused least most b s (next s)
     next : List ℕ → Read ℕ (List ℕ)
     next u = read_groups 1 ((most - b) / 128 + 1) u
 
-    go : (within least most b ≡ false) ⊎ ((within least most b ≡ true) × (128 ≤ b) × (next s ≡ refused)) → (next s ≡ refused → next (s ++ t) ≡ refused)
-        → step least most b (s ++ t) (next (s ++ t)) ≡ refused
+    go : (within least most b ≡ false) ⊎ ((within least most b ≡ true) × (128 ≤ b) × (next s ≡ stop Stop.Refused)) → (next s ≡ stop Stop.Refused → next (s ++ t) ≡ stop Stop.Refused)
+        → step least most b (s ++ t) (next (s ++ t)) ≡ stop Stop.Refused
     go (inl w) ih = step_out least most b (s ++ t) (next (s ++ t)) w
     go (inr (w, h, r)) ih = step_more least most b (s ++ t) (next (s ++ t)) w h ∙ ap (λ (r : Read ℕ (List ℕ)). raise b r) (ih r)
 
-pub number : ℕ → Form ℕ
+unfoldable pub number : ℕ → Form ℕ
 number most =
     record {
       valid = λ v. v ≤ most;
@@ -231,6 +233,6 @@ pub below_number : (most v : ℕ) → v ≤ most → (number most).valid v
 unfolding number
 below_number most v h = h
 
-pub number_ends : (most : ℕ) → (number most).read [] ≡ short
+pub number_ends : (most : ℕ) → (number most).read [] ≡ stop Stop.Short
 unfolding number read_groups
 number_ends most = refl

@@ -1,12 +1,14 @@
 -- Document 01's sentences on reading, as theorems, once for every form: what was written is read back; Short exactly where the
 -- bytes are a proper, non-empty beginning of some form; refused otherwise exactly where they neither begin with a form nor are
 -- such a beginning.
-use Rattle.std.specs.Prelude.{ℕ, ◌+◌, ◌-◌, ◌≤◌, ◌≡◌, refl, List, [], ◌∷◌, ◌++◌, length}
+use Rattle.std.specs.Prelude.{ℕ, ◌-◌, ◌≤◌, ◌≡◌, refl, List, [], ◌∷◌, ◌++◌, length}
 use Rattle.std.proofs.Common.{sym, ap, ◌∙◌, append-nil, arith, length-append}
-use Rattle.forms.specs.Form.{Form, Read, got, short, refused, and_then, short_begins, begins_short}
+use Rattle.forms.specs.Form.{Form, Read, got, and_then, short_begins, begins_short}
 use Rattle.forms.specs.Number.{number, number_bytes, number_writes, number_ends, number_below, below_number}
 use Rattle.forms.specs.At.{placed_front}
 use Rattle.forms.specs.Lone.{value, refusal, answered, read_one}
+use Rattle.forms.specs.Form.{stop}
+use Rattle.forms.specs.declared.stop.Stop.{Stop}
 
 -- s begins with a form: that of a value that has one
 pub record Begun {A : Type 0} (f : Form A) (s : List ℕ) : Type 0 where
@@ -25,7 +27,7 @@ pub record Beginning {A : Type 0} (f : Form A) (s : List ℕ) : Type 0 where
   pub bytes : s ++ missing ∷ behind ≡ f.write whole
 
 -- Of any form of at least one byte; `other` is the refusal of what has no such form, 4 or 8.
-module _ {A : Type 0} (other : ℕ) (f : Form A) (ends : f.read [] ≡ short) where
+module _ {A : Type 0} (other : ℕ) (f : Form A) (ends : f.read [] ≡ stop Stop.Short) where
   -- no form is empty
   pub filled : (a : A) → f.valid a → f.write a ≡ [] → ⊥
   filled a v e =
@@ -61,8 +63,8 @@ module _ {A : Type 0} (other : ℕ) (f : Form A) (ends : f.read [] ≡ short) wh
           let size = ap length w ∙ length-append (f.write x) rest in
           let count : n ≡ length (f.write x) = omega arith in
           (rest, rw same at v, rw same at w, rw same at count)
-      go short q = let is = sym (by_read b s short q) ∙ e in let z : ◌≡◌ {A = ℕ} 0 1 = cc in absurd (omega arith)
-      go refused q = let is = sym (by_read b s refused q) ∙ e in let z : ◌≡◌ {A = ℕ} 0 1 = cc in absurd (omega arith)
+      go (stop Stop.Short) q = let is = sym (by_read b s (stop Stop.Short) q) ∙ e in let z : ◌≡◌ {A = ℕ} 0 1 = cc in absurd (omega arith)
+      go (stop Stop.Refused) q = let is = sym (by_read b s (stop Stop.Refused) q) ∙ e in let z : ◌≡◌ {A = ℕ} 0 1 = cc in absurd (omega arith)
 
   -- 9, Short, exactly where the bytes are a proper, non-empty beginning of some form
   module _ (not_IsShort : other ≡ 9 → ⊥) where
@@ -72,17 +74,17 @@ module _ {A : Type 0} (other : ℕ) (f : Form A) (ends : f.read [] ≡ short) wh
       where
         go : (r : Read A (List ℕ)) → f.read (b ∷ s) ≡ r → Beginning f (b ∷ s)
         go (got x rest) q = let is = sym (by_read b s (got x rest) q) ∙ e in let z : ◌≡◌ {A = ℕ} 0 1 = cc in absurd (omega arith)
-        go short q =
+        go (stop Stop.Short) q =
             let (a, m, t, v, w) = short_begins f (b ∷ s) q in
             record { some = λ n. absurd (omega (arith, ap length n)); whole = a; missing = m; behind = t; valid = v; bytes = w }
-        go refused q =
-            let is : refusal other ≡ refusal 9 = sym (by_read b s refused q) ∙ e in
+        go (stop Stop.Refused) q =
+            let is : refusal other ≡ refusal 9 = sym (by_read b s (stop Stop.Refused) q) ∙ e in
             let same : other ≡ 9 = cc in
             absurd (not_IsShort same)
 
     pub is_short : (s : List ℕ) → Beginning f s → read_one other f s ≡ refusal 9
     is_short [] h = absurd (h.some refl)
-    is_short (b ∷ s) h = by_read b s short (begins_short f (b ∷ s) h.whole h.missing h.behind h.valid h.bytes)
+    is_short (b ∷ s) h = by_read b s (stop Stop.Short) (begins_short f (b ∷ s) h.whole h.missing h.behind h.valid h.bytes)
 
     -- `other` exactly where they neither begin with a form nor are such a beginning
     pub other_only : (s : List ℕ) → read_one other f s ≡ refusal other → (Begun f s → ⊥) × (Beginning f s → ⊥)
@@ -104,8 +106,8 @@ module _ {A : Type 0} (other : ℕ) (f : Form A) (ends : f.read [] ≡ short) wh
         go (got x rest) q =
             let (v, w) = f.back (b ∷ s) x rest q in
             absurd (n (record { whole = x; behind = rest; valid = v; bytes = w }))
-        go short q = absurd (m (short_only (b ∷ s) (by_read b s short q)))
-        go refused q = by_read b s refused q
+        go (stop Stop.Short) q = absurd (m (short_only (b ∷ s) (by_read b s (stop Stop.Short) q)))
+        go (stop Stop.Refused) q = by_read b s (stop Stop.Refused) q
 
 -- ---- the lone number
 

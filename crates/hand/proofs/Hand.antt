@@ -59,7 +59,6 @@ drop_more x y a b e = sym (drop-drop b a x) ∙ ap (drop b) e ∙ drop-drop b a 
 pub record Handing (c : ℕ) (other : EndReason) (s₀ l : List ℕ) (n : ℕ) (out₀ s index free out : List ℕ) (used k : ℕ) : Type 0 where
   pub long : length s ≡ length s₀
   pub outs : length out ≡ length out₀
-  pub within : k ≤ n
   pub header : (view c s).header ≡ (view c s₀).header
   pub tree : (view c s).tree ≡ (view c s₀).tree
   pub rest : (view c s).rest ≡ (view c s₀).rest
@@ -77,7 +76,6 @@ module _ (c : ℕ) (other : EndReason) (s₀ l : List ℕ) (n : ℕ) (index₀ f
   hand_begins = record {
     long = refl;
     outs = refl;
-    within = omega arith;
     header = refl;
     tree = refl;
     rest = refl;
@@ -92,15 +90,15 @@ module _ (c : ℕ) (other : EndReason) (s₀ l : List ℕ) (n : ℕ) (index₀ f
   }
 
   module _ (s index free out : List ℕ) (used k : ℕ) (p : Handing c other s₀ l n out₀ s index free out used k) where
-    module _ (more : k < n) where
+    module _ (more : k < length (take n l)) where
       abbrev i : ℕ
-      i = get_or l k 0
+      i = get_or (take n l) k 0
 
       abbrev left : List ℕ
       left = drop (k + 1) (take n l)
 
       listed : drop k (take n l) ≡ i ∷ left
-      listed = next_listed l n k asked.long more
+      listed = next_listed (take n l) k more
 
       open_slots : All (OpenSlot c (view c s).table) (i ∷ left)
       open_slots = subst (All (OpenSlot c (view c s).table)) listed p.slots
@@ -145,7 +143,6 @@ module _ (c : ℕ) (other : EndReason) (s₀ l : List ℕ) (n : ℕ) (index₀ f
           record {
             long = same ∙ p.long;
             outs = len ∙ p.outs;
-            within = omega arith;
             header = ap (λ (w : View). w.header) v ∙ p.header;
             tree = ap (λ (w : View). w.tree) v ∙ p.tree;
             rest = ap (λ (w : View). w.rest) v ∙ p.rest;
@@ -167,10 +164,10 @@ module _ (c : ℕ) (other : EndReason) (s₀ l : List ℕ) (n : ℕ) (index₀ f
                 ∙ drop_more out out₀ used (length bytes) p.behind ∙ ap (λ (m : ℕ). drop m out₀) (sym at);
           }
 
-    pub hand_ends : n ≤ k → Handed c other (view c s₀) (view c s) (take n l) out₀ out used
+    pub hand_ends : length (take n l) ≤ k → Handed c other (view c s₀) (view c s) (take n l) out₀ out used
     unfolding patch
     hand_ends h =
-        let e = none_listed l n k asked.long h in
+        let e = none_listed (take n l) k h in
         let all = records_of other (view c s₀).table (take n l) in
         let full : take used out ≡ all =
         sym (append-nil (take used out)) ∙ ap (λ (x : List ℕ). take used out ++ x) (sym (ap (records_of other (view c s₀).table) e)) ∙ p.filled in

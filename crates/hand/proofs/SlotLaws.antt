@@ -1,4 +1,5 @@
 -- What is read of a slot is what its bytes say. Assumes nothing.
+use Rattle.std.specs.Prelude.{Err, Ok, Result}
 use Prim.Native.Nat.{ℕ, ◌-◌}
 use mathlib.Core.Path.{◌≡◌, refl, sym, ap, ◌∙◌}
 use mathlib.Core.Bool.{Bool, true, false, cond}
@@ -7,12 +8,11 @@ use lib.ListN.{length}
 use Rattle.memory.specs.Bytes.{words_at}
 use Rattle.slots.specs.Table.{key_of}
 use Rattle.words.specs.Words.{record_of, words_fit}
-use Rattle.forms.specs.Form.{Read, got, short, refused, and_then}
+use Rattle.forms.specs.Form.{Read, got, and_then}
 use Rattle.forms.specs.At.{read_at, placed_front}
 use Rattle.index.specs.Hash.{key_from}
 use Rattle.key.specs.KeyOr.{no_key, key_or}
-use Rattle.key.specs.KeyForm.{key, key_at}
-use Rattle.key.specs.declared.form.KeyAt.{KeyAt}
+use Rattle.key.specs.KeyForm.{key}
 use Rattle.key.specs.declared.key.FlowKey.{FlowKey}
 use Rattle.flow.specs.Counting.{closed}
 use Rattle.flow.specs.declared.record.FlowRecord.{FlowRecord}
@@ -23,6 +23,9 @@ use Rattle.rules.specs.Rules.{finish_or}
 use Rattle.rules.specs.Engine.{engine, both_fins, finished_flow}
 use Rattle.state.specs.Slot.{key_in, words_in, record_in, flow_in}
 use Rattle.hand.specs.Slot.{flow_as}
+use Rattle.forms.specs.Answers.{stands}
+use Rattle.forms.specs.declared.stop.Stop.{Stop}
+use Rattle.forms.specs.Form.{stop}
 
 -- ---- the record
 
@@ -43,22 +46,20 @@ key_read_lem s = ap key_or (placed_front key.read s) ∙ go (key.read s)
   where
     go : (r : Read FlowKey (List ℕ)) → key_or (and_then r (λ a rest. got a (length s - length rest))) ≡ key_or r
     go (got k rest) = refl
-    go short = refl
-    go refused = refl
+    go (stop Stop.Short) = refl
+    go (stop Stop.Refused) = refl
 
-module _ (b s : List ℕ) (x : KeyAt) (lies : s ≡ key_of b) (says : key_at x ≡ read_at key s 0) where
-  key_there : key_or (key_at x) ≡ key_in b
+module _ (b s : List ℕ) (x : Result (FlowKey × ℕ) Stop) (lies : s ≡ key_of b) (says : stands x ≡ read_at key s 0) where
+  key_there : key_or (stands x) ≡ key_in b
   unfolding key_in
   key_there = ap key_or says ∙ key_read_lem s ∙ ap key_from lies
 
-  pub key_value : (k : FlowKey) (next : ℕ) → x ≡ KeyAt.Value k next → k ≡ key_in b
-  key_value k next e = ap (λ (y : KeyAt). key_or (key_at y)) (sym e) ∙ key_there
+  pub key_value : (k : FlowKey) (next : ℕ) → x ≡ Ok (k, next) → k ≡ key_in b
+  key_value k next e = ap (λ (y : Result (FlowKey × ℕ) Stop). key_or (stands y)) (sym e) ∙ key_there
 
-  pub key_short : {k : FlowKey} → k ≡ no_key → x ≡ KeyAt.Short → k ≡ key_in b
-  key_short blank e = blank ∙ ap (λ (y : KeyAt). key_or (key_at y)) (sym e) ∙ key_there
-
-  pub key_refused : {k : FlowKey} → k ≡ no_key → x ≡ KeyAt.Refused → k ≡ key_in b
-  key_refused blank e = blank ∙ ap (λ (y : KeyAt). key_or (key_at y)) (sym e) ∙ key_there
+  pub key_stopped : (why : Stop) {k : FlowKey} → k ≡ no_key → x ≡ Err why → k ≡ key_in b
+  key_stopped Stop.Short blank e = blank ∙ ap (λ (y : Result (FlowKey × ℕ) Stop). key_or (stands y)) (sym e) ∙ key_there
+  key_stopped Stop.Refused blank e = blank ∙ ap (λ (y : Result (FlowKey × ℕ) Stop). key_or (stands y)) (sym e) ∙ key_there
 
 -- ---- the flow as it is handed out
 

@@ -1,13 +1,8 @@
 -- A state inside a call, between one step and the next; and what a step leaves untouched. Assumes nothing.
-use Rattle.std.specs.Prelude.{ℕ, ◌+◌, ◌*◌, ◌≤◌, ◌<◌, ◌≡◌, List, [], map, length, drop, get_or, set}
+use Rattle.std.specs.Prelude.{ℕ, ◌+◌, ◌*◌, ◌≤◌, ◌<◌, ◌≡◌, List, [], map, length, drop, get_or, set, None, Option, Some}
 use Rattle.std.proofs.Common.{◌∙◌}
-use Rattle.std.proofs.Math.Option.{Option, none, some}
 use Rattle.queue.specs.Tree.{node}
-use Rattle.flow.specs.declared.time.EndReason.{EndReason}
-use Rattle.flow.specs.declared.time.OptEndReason.{OptEndReason}
-use Rattle.flow.specs.declared.time.OptEndReason.TheVariants.{Absent, Present}
 use Rattle.slots.specs.Table.{slots}
-use Rattle.slots.specs.declared.Found.{Found}
 use Rattle.table.specs.View.{View, view}
 use Rattle.rules.specs.Rules.{Flow}
 use Rattle.rules.specs.Engine.{engine}
@@ -48,18 +43,13 @@ pub record Acted (c T : ℕ) (s s' index free : List ℕ) (l : Slots engine) : T
 -- ## What was found
 
 -- the flow of a slot that was found
-abbrev pub at : Slots engine → Found → Option (Flow engine)
-at l (Found.At i) = get_or l i none
-at l Found.Nothing = none
+abbrev pub at : Slots engine → Option ℕ → Option (Flow engine)
+at l (Some i) = get_or l i None
+at l None = None
 
 -- the slots without it
-abbrev pub emptied_at : Found → Slots engine → Slots engine
-emptied_at (Found.At i) l = set l i none
-emptied_at Found.Nothing l = l
+abbrev pub emptied_at : Option ℕ → Slots engine → Slots engine
+emptied_at (Some i) l = set l i None
+emptied_at None l = l
 
 -- ## Why a flow ends
-
--- the reason, if there is one
-abbrev pub reason_of : OptEndReason → Option EndReason
-reason_of Absent = none
-reason_of (Present r) = some r

@@ -1,8 +1,7 @@
 -- Slots are given back: only the byte of each changes that says that it is used. Assumes nothing.
-use Rattle.std.specs.Prelude.{ℕ, zero, suc, ◌<◌, ◌≡◌, refl, Bool, true, false, not, cond, List, [], ◌∷◌, map, length, get_or, set, drop}
+use Rattle.std.specs.Prelude.{ℕ, zero, suc, ◌<◌, ◌≡◌, refl, Bool, true, false, not, cond, List, [], ◌∷◌, map, length, get_or, set, drop, None, Some}
 use Rattle.std.proofs.Math.Path.{sym}
 use Rattle.std.proofs.Common.{ap, ◌∙◌, subst, ⊎_elim, arith, length-set, length-append, get_or-set_same, get_or-set_other}
-use Rattle.std.proofs.Math.Option.{none, some}
 use Rattle.std.proofs.Math.ListN.{length-map, get_or-map}
 use Rattle.std.proofs.Math.Seq.{ext_get_or}
 use Rattle.memory.specs.Bytes.{part, patch, words_at}
@@ -138,7 +137,7 @@ all_freed_names c T table tree (i ∷ rest) h many out =
 -- the slots of the list cleared
 abbrev pub cleared_at : List ℕ → Slots engine → Slots engine
 cleared_at [] l = l
-cleared_at (i ∷ is) l = cleared_at is (set l i none)
+cleared_at (i ∷ is) l = cleared_at is (set l i None)
 
 -- to give slots back clears them
 pub freed_slots : (listed : List ℕ) (table : List (List ℕ)) → slots_of (freed_all listed table) ≡ cleared_at listed (slots_of table)
@@ -152,35 +151,35 @@ freed_slots (i ∷ is) table =
 -- as many slots as before
 length_cleared : (listed : List ℕ) (l : Slots engine) → length (cleared_at listed l) ≡ length l
 length_cleared [] l = refl
-length_cleared (i ∷ is) l = length_cleared is (set l i none) ∙ length-set l i none
+length_cleared (i ∷ is) l = length_cleared is (set l i None) ∙ length-set l i None
 
 -- a slot that is cleared has no flow
-none_at : (l : Slots engine) (i : ℕ) → get_or (set l i none) i none ≡ none
+none_at : (l : Slots engine) (i : ℕ) → get_or (set l i None) i None ≡ None
 none_at [] i = refl
 none_at (x ∷ l) zero = refl
 none_at (x ∷ l) (suc i) = none_at l i
 
 module _ (j : ℕ) where
   -- what has no flow has none still
-  none_stays : (listed : List ℕ) (l : Slots engine) → get_or l j none ≡ none → get_or (cleared_at listed l) j none ≡ none
+  none_stays : (listed : List ℕ) (l : Slots engine) → get_or l j None ≡ None → get_or (cleared_at listed l) j None ≡ None
   none_stays [] l e = e
   none_stays (i ∷ is) l e =
-      none_stays is (set l i none)
-      (⊎_elim (λ (q : j ≡ i). ap (λ (k : ℕ). get_or (set l i none) k none) q ∙ none_at l i)
-      (λ n. get_or-set_other l i j none none n ∙ e) (same_or j i))
+      none_stays is (set l i None)
+      (⊎_elim (λ (q : j ≡ i). ap (λ (k : ℕ). get_or (set l i None) k None) q ∙ none_at l i)
+      (λ n. get_or-set_other l i j None None n ∙ e) (same_or j i))
 
   -- a slot of the list has none
-  pub listed_cleared : (listed : List ℕ) (l : Slots engine) → OneOf j listed → get_or (cleared_at listed l) j none ≡ none
+  pub listed_cleared : (listed : List ℕ) (l : Slots engine) → OneOf j listed → get_or (cleared_at listed l) j None ≡ None
   listed_cleared [] l o = absurd o
   listed_cleared (i ∷ is) l o =
-      ⊎_elim (λ (q : j ≡ i). none_stays is (set l i none) (ap (λ (k : ℕ). get_or (set l i none) k none) q ∙ none_at l i))
-      (λ n. listed_cleared is (set l i none) (o n)) (same_or j i)
+      ⊎_elim (λ (q : j ≡ i). none_stays is (set l i None) (ap (λ (k : ℕ). get_or (set l i None) k None) q ∙ none_at l i))
+      (λ n. listed_cleared is (set l i None) (o n)) (same_or j i)
 
   -- another has what it had
-  pub other_cleared : (listed : List ℕ) (l : Slots engine) → (OneOf j listed → ⊥) → get_or (cleared_at listed l) j none ≡ get_or l j none
+  pub other_cleared : (listed : List ℕ) (l : Slots engine) → (OneOf j listed → ⊥) → get_or (cleared_at listed l) j None ≡ get_or l j None
   other_cleared [] l n = refl
   other_cleared (i ∷ is) l n =
-      other_cleared is (set l i none) (λ o. n (λ q. o)) ∙ get_or-set_other l i j none none (λ e. n (λ q. absurd (q e)))
+      other_cleared is (set l i None) (λ o. n (λ q. o)) ∙ get_or-set_other l i j None None (λ e. n (λ q. absurd (q e)))
 
   -- .. down to its bytes
   pub freed_kept : (listed : List ℕ) (table : List (List ℕ)) → (OneOf j listed → ⊥) → slot_of (freed_all listed table) j ≡ slot_of table j
@@ -197,37 +196,37 @@ module _ (c : ℕ) (test : Flow engine → Bool) (table : List (List ℕ)) (list
   stays f = not (test f)
 
   -- slot by slot
-  kept_at : (j : ℕ) → j < c → get_or (cleared_at listed (slots_of table)) j none ≡ keep engine stays (get_or (slots_of table) j none)
+  kept_at : (j : ℕ) → j < c → get_or (cleared_at listed (slots_of table)) j None ≡ keep engine stays (get_or (slots_of table) j None)
   kept_at j low = go (is_used (slot_of table j)) refl (test (flow_in (slot_of table j))) refl
     where
       go : (u : Bool) → is_used (slot_of table j) ≡ u → (t : Bool) → test (flow_in (slot_of table j)) ≡ t
-          → get_or (cleared_at listed (slots_of table)) j none ≡ keep engine stays (get_or (slots_of table) j none)
+          → get_or (cleared_at listed (slots_of table)) j None ≡ keep engine stays (get_or (slots_of table) j None)
       go false free t q =
           let e = slots_of_at table j ∙ free_flow (slot_of table j) free in
           none_stays j listed (slots_of table) e ∙ sym (ap (keep engine stays) e)
       go true used true q =
           let e = slots_of_at table j ∙ used_flow (slot_of table j) used in
           listed_cleared j listed (slots_of table) (all j low used q)
-          ∙ sym (ap (keep engine stays) e ∙ ap (λ (x : Bool). cond (not x) (some (flow_in (slot_of table j))) none) q)
+          ∙ sym (ap (keep engine stays) e ∙ ap (λ (x : Bool). cond (not x) (Some (flow_in (slot_of table j))) None) q)
       go true used false q =
           let e = slots_of_at table j ∙ used_flow (slot_of table j) used in
           other_cleared j listed (slots_of table) (λ o. clash (all_one (λ i. test (flow_in (slot_of table i)) ≡ true) listed j pass o) q) ∙ e
-          ∙ sym (ap (keep engine stays) e ∙ ap (λ (x : Bool). cond (not x) (some (flow_in (slot_of table j))) none) q)
+          ∙ sym (ap (keep engine stays) e ∙ ap (λ (x : Bool). cond (not x) (Some (flow_in (slot_of table j))) None) q)
 
   pub cleared_keep : cleared_at listed (slots_of table) ≡ map (keep engine (λ f. not (test f))) (slots_of table)
   unfolding slots_of
   cleared_keep =
-      ext_get_or none (cleared_at listed (slots_of table)) (map (keep engine stays) (slots_of table))
+      ext_get_or None (cleared_at listed (slots_of table)) (map (keep engine stays) (slots_of table))
       (length_cleared listed (slots_of table) ∙ sym (length-map (slots_of table) (keep engine stays)))
       (λ j h.
       kept_at j (omega (arith, length_cleared listed (slots_of table), length-map table slot_flow))
-      ∙ sym (get_or-map (keep engine stays) (slots_of table) j none))
+      ∙ sym (get_or-map (keep engine stays) (slots_of table) j None))
 
 -- slots without a flow hold none
-none_occupied : (l : Slots engine) → ((j : ℕ) → j < length l → get_or l j none ≡ none) → occupied engine l ≡ []
+none_occupied : (l : Slots engine) → ((j : ℕ) → j < length l → get_or l j None ≡ None) → occupied engine l ≡ []
 none_occupied [] h = refl
-none_occupied (none ∷ l) h = none_occupied l (λ j k. h (suc j) (omega arith))
-none_occupied (some f ∷ l) h = absurd (let e = h 0 (omega arith) in let z : ◌≡◌ {A = ℕ} 0 1 = cc in omega arith)
+none_occupied (None ∷ l) h = none_occupied l (λ j k. h (suc j) (omega arith))
+none_occupied (Some f ∷ l) h = absurd (let e = h 0 (omega arith) in let z : ◌≡◌ {A = ℕ} 0 1 = cc in omega arith)
 
 -- where every open slot is in the list, no flow stays
 pub cleared_all : (c : ℕ) (table : List (List ℕ)) (listed : List ℕ) → length table ≡ c
@@ -238,7 +237,7 @@ cleared_all c table listed many all =
     (λ j h.
     go j (is_used (slot_of table j)) refl (omega (arith, length_cleared listed (slots_of table), length-map table slot_flow)))
   where
-    go : (j : ℕ) (u : Bool) → is_used (slot_of table j) ≡ u → j < c → get_or (cleared_at listed (slots_of table)) j none ≡ none
+    go : (j : ℕ) (u : Bool) → is_used (slot_of table j) ≡ u → j < c → get_or (cleared_at listed (slots_of table)) j None ≡ None
     go j true used low = listed_cleared j listed (slots_of table) (all j low used)
     go j false free low = none_stays j listed (slots_of table) (slots_of_at table j ∙ free_flow (slot_of table j) free)
 

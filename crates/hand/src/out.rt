@@ -1,4 +1,4 @@
-// A list of slots: the bytes their records need, the queue that names them again, and their records handed out.
+//! A list of slots: the bytes their records need, the queue that names them again, and their records handed out.
 ghost use Rattle.std.specs.Prelude.{◌≡◌, map, ◌≤◌, length, take};
 ghost use Rattle.slots.specs.Table.{slot};
 ghost use Rattle.table.specs.View.{view};
@@ -13,52 +13,43 @@ ghost use Rattle.hand.specs.Act.{Listed, Asked, PutBack, Wrote, CloseAsked, Clos
 
 use crate::slot::finished_at;
 use flow::time::EndReason;
-use forms::place::Place;
 use key::key::FlowKey;
 use wire::record::{Flow, record_len, write_record_at};
 
-// The bytes that the records of the list need.
+/// The bytes that the records of the list need.
 pub fn sizes_of(state: &[u8], capacity: usize, leaving: &[u16], n: usize, other: EndReason) -> usize
     requires { Listed capacity state.now leaving.now n }
     ensures { result ≡ sizes engine (map (finish_or engine other) (flows_of (view capacity state.now).table (take n leaving.now))) }
 {
     let mut sum = 0;
-    let mut k = 0;
-    while k < n {
-        let i = leaving[k] as usize;
-        sum += record_len(finished_at(state, i, other));
-        k += 1;
+    for &slot in &leaving[..n] {
+        sum += record_len(finished_at(state, slot as usize, other));
     }
     sum
 }
 
-// The queue names the slots of the list again.
+/// The queue names the slots of the list again.
 pub fn put_back(state: &mut [u8], capacity: usize, timeout: u64, leaving: &[u16], n: usize)
     requires { Asked capacity timeout state.old leaving.now n }
     ensures { PutBack capacity timeout (view capacity state.old) (view capacity state.new) }
 {
-    let mut k = 0;
-    while k < n {
-        let i = leaving[k] as usize;
+    for &slot in &leaving[..n] {
+        let i = slot as usize;
         let due = table::real_due(state, i, timeout);
         table::put_due(state, capacity, i, due);
-        k += 1;
     }
 }
 
-// The flow's record at the front of out; the answer is its length.
+/// The flow's record at the front of `out`; the answer is its length.
 pub fn write_flow(out: &mut [u8], flow: Flow) -> usize
     requires { length (record_bytes flow) ≤ length out.old }
     ensures { Wrote flow out.old out.new result }
 {
-    // There is room for it, so the place behind it is never Full.
-    match write_record_at(out, Place::At(0), flow) {
-        Place::At(n) => n,
-        Place::Full => 0,
-    }
+    // There is room for it, so a place behind it is always told.
+    write_record_at(out, Some(0), flow).unwrap_or(0)
 }
 
-// Gives slot i back: its key leaves the index, and the slot goes to the free ones.
+/// Gives slot `i` back: its key leaves the index, and the slot goes to the free ones.
 pub fn close_slot(
     state: &mut [u8],
     capacity: usize,
@@ -75,7 +66,7 @@ pub fn close_slot(
     state::free::push(free, i);
 }
 
-// Hands slot i's flow out: its record at the front of out, whose length is the answer, and the slot given back.
+/// Hands slot `i`'s flow out: its record at the front of `out`, whose length is the answer, and the slot given back.
 pub fn hand_one(
     state: &mut [u8],
     capacity: usize,
@@ -91,13 +82,12 @@ pub fn hand_one(
 {
     // The record is read and written before the slot is given back.
     let flow = finished_at(state, i, other);
-    let key = flow.key;
     let n = write_flow(out, flow);
-    close_slot(state, capacity, i, key, index, free);
+    close_slot(state, capacity, i, flow.key, index, free);
     n
 }
 
-// Hands the flows of the list out, each behind the one before; the answer is the bytes filled.
+/// Hands the flows of the list out, each behind the one before; the answer is the bytes filled.
 pub fn hand_out(
     state: &mut [u8],
     capacity: usize,
@@ -113,11 +103,9 @@ pub fn hand_out(
     ensures ready { Ready state.new capacity index.new free.new }
 {
     let mut used = 0;
-    let mut k = 0;
-    while k < n {
-        let i = leaving[k] as usize;
+    for &slot in &leaving[..n] {
+        let i = slot as usize;
         used += hand_one(state, capacity, i, other, index, free, &mut out[used..]);
-        k += 1;
     }
     used
 }

@@ -1,4 +1,4 @@
-// What a slot holds: its record, its key, and its flow as it is handed out.
+//! What a slot holds: its record, its key, and its flow as it is handed out.
 ghost use Rattle.std.specs.Prelude.{◌≡◌, cond, ◌+◌, ◌*◌, ◌≤◌, length};
 ghost use Rattle.slots.specs.Table.{slot};
 ghost use Rattle.key.specs.KeyOr.{no_key};
@@ -10,16 +10,15 @@ ghost use Rattle.hand.specs.Slot.{HasRecord, HasFlow, flow_as};
 
 use flow::record::FlowRecord;
 use flow::time::EndReason;
-use forms::optional::OptU16;
-use key::encapsulation::OptEncapsulation;
-use key::form::{KeyAt, read_key_at};
+use key::form::read_key_at;
 use key::key::{Address, Endpoints, FlowKey};
 use key::link::MacAddress;
 use key::vlan::VlanTags;
 use wire::record::Flow;
 use words::words::record_of;
 
-// Slot i's record.
+/// Slot `i`'s record.
+#[tactic(auto, using(crate::proofs::SlotLaws::words_fit_lem, crate::proofs::SlotLaws::record_read_lem))]
 pub fn record_at(state: &[u8], i: usize) -> FlowRecord
     requires { HasRecord state.now i }
     ensures { result ≡ record_in (slot state.now i) }
@@ -39,38 +38,34 @@ fn blank_key() -> FlowKey
         destination: Address::V4(0),
         endpoints: Endpoints::None,
         protocol: 0,
-        ethertype: OptU16::Absent,
+        ethertype: None,
         source_mac: nothing,
         destination_mac: nothing,
         vlan: VlanTags::Untagged,
-        encapsulation: OptEncapsulation::Absent,
+        encapsulation: None,
     }
 }
 
-// Slot i's key.
+/// Slot `i`'s key.
 pub fn key_at(state: &[u8], i: usize) -> FlowKey
     requires { 256 + 624 * i + 624 ≤ length state.now }
     ensures { result ≡ key_in (slot state.now i) }
 {
     match read_key_at(slots::key_of(state, i), 0) {
-        KeyAt::Value(key, _) => key,
-        KeyAt::Short => blank_key(),
-        KeyAt::Refused => blank_key(),
+        Ok((key, _)) => key,
+        Err(_) => blank_key(),
     }
 }
 
-// Whether both FINs were seen.
+/// Whether both FINs were seen.
 pub fn both_fins(record: FlowRecord) -> bool
     ensures { result ≡ both_fins «record» }
 {
-    let forward = record.forward;
-    let reverse = record.reverse;
-    let there = forward.tcp_flags;
-    let back = reverse.tcp_flags;
-    (0 < there.fin) & (0 < back.fin)
+    (0 < record.forward.tcp_flags.fin) & (0 < record.reverse.tcp_flags.fin)
 }
 
 // Fin where both FINs were seen, else the other reason.
+#[tactic(auto, using(crate::proofs::SlotLaws::fin_seen_lem, crate::proofs::SlotLaws::fin_unseen))]
 fn reason_or(record: FlowRecord, other: EndReason) -> EndReason
     ensures { result ≡ cond (both_fins «record») Fin other }
 {
@@ -80,23 +75,22 @@ fn reason_or(record: FlowRecord, other: EndReason) -> EndReason
     other
 }
 
-// A flow with this key and record as it is written.
+/// A flow with this key and record as it is written.
+#[tactic(auto, using(crate::proofs::SlotLaws::finished_is))]
 pub fn finished(key: FlowKey, record: FlowRecord, reason: EndReason) -> Flow
     ensures { result ≡ finished_flow key reason «record» }
 {
     Flow {
-        key: key,
+        key,
         record: record.close(reason),
     }
 }
 
-// Slot i's flow as a sweep or a drain finishes it.
+/// Slot `i`'s flow as a sweep or a drain finishes it.
 pub fn finished_at(state: &[u8], i: usize, other: EndReason) -> Flow
     requires { HasFlow state.now i }
     ensures { result ≡ flow_as (finish_or engine other (flow_in (slot state.now i))) }
 {
     let record = record_at(state, i);
-    let key = key_at(state, i);
-    let reason = reason_or(record, other);
-    finished(key, record, reason)
+    finished(key_at(state, i), record, reason_or(record, other))
 }

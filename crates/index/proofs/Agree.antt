@@ -1,6 +1,6 @@
 -- How far a key agrees with what stands in memory, byte by byte or eight bytes at a time, and what that says of a slot. Assumes nothing.
 use mathlib.Core.Path.{◌≡◌, refl, sym, ap, ◌∙◌}
-use mathlib.Core.Bool.{Bool, true, false, false≢true}
+use mathlib.Core.Bool.{Bool, true, false}
 use mathlib.Core.Logic.{⊎_elim}
 use mathlib.Core.List.{List, [], ◌∷◌}
 use Prim.Native.Nat.{ℕ, suc, ◌+◌, ◌-◌, ◌*◌, ◌≤◌, ◌<◌}
@@ -8,11 +8,9 @@ use native.Mathlib.Omega.{arith}
 use lib.ListN.{length, get_or}
 use lib.Seq.{ext_get_or}
 use Rattle.memory.specs.Bytes.{num, part}
-use Rattle.memory.specs.Decides.{Decides}
-use Rattle.memory.proofs.Laws.{length_part, get_d_part, less_or, says_yes, says_no}
+use Rattle.memory.proofs.Laws.{length_part, get_d_part, less_or}
 use Rattle.slots.specs.Table.{slot, holds}
-use Rattle.slots.proofs.Laws.{holds_true, key_part, not_used, not_long, matches}
-use Rattle.index.specs.Agree.{Agrees}
+use Rattle.slots.proofs.Laws.{holds_true, key_part}
 
 -- as many bytes that stand for the same number are the same
 num_same : (xs ys : List ℕ) → length xs ≡ length ys → ((k : ℕ) → k < length xs → get_or xs k 0 < 256)
@@ -51,8 +49,9 @@ same_word s t a b fits fits' e =
 
 -- ---- a run of bytes or words
 
-pub agree_none : (s : List ℕ) (at : ℕ) (key : List ℕ) (first : ℕ) → Agrees s at key first first
-agree_none s at key first = record { same = λ j lo hi. absurd (omega arith) }
+-- where key would stand in s from `at` on, its bytes from `first` to before `last` do
+pub record Agrees (s : List ℕ) (at : ℕ) (key : List ℕ) (first last : ℕ) : Type 0 where
+  pub same : (j : ℕ) → first ≤ j → j < last → get_or s (at + j) 0 ≡ get_or key j 0
 
 module _ {s : List ℕ} {at : ℕ} {key : List ℕ} where
   -- one byte more
@@ -64,20 +63,11 @@ module _ {s : List ℕ} {at : ℕ} {key : List ℕ} where
             (λ g. let e : j ≡ k = omega arith in ap (λ (m : ℕ). get_or s (at + m) 0) e ∙ here ∙ ap (λ (m : ℕ). get_or key m 0) (sym e)) (less_or j k);
       }
 
-  -- all bytes are passed
-  pub agree_ends : {first k : ℕ} (last : ℕ) → last ≤ k → Agrees s at key first k → Decides true (Agrees s at key first last)
-  agree_ends last end was = says_yes (record { same = λ j lo hi. was.same j lo (omega arith) })
-
-  -- one byte differs
-  pub agree_not : (first last k : ℕ) → first ≤ k → k < last → (get_or s (at + k) 0 ≡ get_or key k 0 → ⊥) → Decides false (Agrees s at key first last)
-  agree_not first last k lo hi other = says_no (λ all. other (all.same k lo hi))
-
-  module _ (k : ℕ) (fits : at + 8 * k + 8 ≤ length s) (fits' : 8 * k + 8 ≤ length key) (w w' : ℕ) (is : w ≡ num (part s (at + 8 * k) 8))
-      (is' : w' ≡ num (part key (8 * k) 8)) where
+  module _ (k : ℕ) (fits : at + 8 * k + 8 ≤ length s) (fits' : 8 * k + 8 ≤ length key) where
     -- eight bytes more
-    pub agree_word : ((j : ℕ) → get_or s j 0 < 256) → ((j : ℕ) → get_or key j 0 < 256) → Agrees s at key 0 (8 * k) → w ≡ w'
-        → Agrees s at key 0 (8 * (k + 1))
-    agree_word bs bt was e =
+    pub agree_word : {w w' : ℕ} → ((j : ℕ) → get_or s j 0 < 256) → ((j : ℕ) → get_or key j 0 < 256) → Agrees s at key 0 (8 * k)
+        → w ≡ num (part s (at + 8 * k) 8) → w' ≡ num (part key (8 * k) 8) → w ≡ w' → Agrees s at key 0 (8 * (k + 1))
+    agree_word bs bt was is is' e =
         record {
           same = λ j lo hi.
               ⊎_elim (λ (l : j < 8 * k). was.same j lo l)
@@ -91,55 +81,27 @@ module _ {s : List ℕ} {at : ℕ} {key : List ℕ} where
               (less_or j (8 * k));
         }
 
-    -- one word differs
-    pub agree_not_word : (words : ℕ) → k < words → (w ≡ w' → ⊥) → Decides false (Agrees s at key 0 (8 * words))
-    agree_not_word words more other =
-        says_no λ all.
+    -- eight bytes differ
+    pub not_word : (num (part s (at + 8 * k) 8) ≡ num (part key (8 * k) 8) → ⊥) → Agrees s at key 0 (8 * (k + 1)) → ⊥
+    not_word other all =
         other
-        (is
-        ∙ ap num
+        (ap num
         (same_word s key (at + 8 * k) (8 * k) fits fits' λ j low.
         let p : at + 8 * k + j ≡ at + (8 * k + j) = omega arith in
-        ap (λ (m : ℕ). get_or s m 0) p ∙ all.same (8 * k + j) (omega arith) (omega arith))
-        ∙ sym is')
+        ap (λ (m : ℕ). get_or s m 0) p ∙ all.same (8 * k + j) (omega arith) (omega arith)))
 
--- ---- slot i, whose key's length is a byte
+-- ---- slot i, whose key's length is a byte: one that lacks some of the key's bytes does not hold it
+module _ (s : List ℕ) (i : ℕ) (key : List ℕ) (fits : 256 + 624 * i + 624 ≤ length s) (byte : get_or s (256 + 624 * i + 1) 0 < 256)
+    (long : get_or s (256 + 624 * i + 1) 0 ≡ length key) where
+  holds_agrees : holds key (slot s i) ≡ true → Agrees s (256 + 624 * i + 2) key 0 (length key)
+  holds_agrees e =
+      let is : part s (256 + 624 * i + 2) (length key) ≡ key =
+      sym (key_part s i (length key) fits (omega arith) long) ∙ (holds_true key (slot s i) e).1 in
+      record { same = λ j lo hi. sym (get_d_part s (256 + 624 * i + 2) (length key) j hi) ∙ ap (λ (l : List ℕ). get_or l j 0) is }
 
-module _ (s : List ℕ) (i : ℕ) (key : List ℕ) (fits : 256 + 624 * i + 624 ≤ length s) (byte : get_or s (256 + 624 * i + 1) 0 < 256) where
-  -- it is not used
-  pub slot_unused : (get_or s (256 + 624 * i) 0 ≡ 1 → ⊥) → false ≡ holds key (slot s i)
-  slot_unused n = sym (not_used s i fits byte key n)
-
-  -- its key has another length
-  pub slot_length : (get_or s (256 + 624 * i + 1) 0 ≡ length key → ⊥) → false ≡ holds key (slot s i)
-  slot_length n = sym (not_long s i fits byte key n)
-
-  module _ (long : get_or s (256 + 624 * i + 1) 0 ≡ length key) where
-    -- a slot that holds the key has all its bytes
-    holds_agrees : holds key (slot s i) ≡ true → Agrees s (256 + 624 * i + 2) key 0 (length key)
-    holds_agrees e =
-        let is : part s (256 + 624 * i + 2) (length key) ≡ key =
-        sym (key_part s i (length key) fits (omega arith) long) ∙ (holds_true key (slot s i) e).1 in
-        record { same = λ j lo hi. sym (get_d_part s (256 + 624 * i + 2) (length key) j hi) ∙ ap (λ (l : List ℕ). get_or l j 0) is }
-
-    -- so one that lacks some of them does not hold it
-    lacks : {first last : ℕ} → last ≤ length key → (Agrees s (256 + 624 * i + 2) key first last → ⊥) → false ≡ holds key (slot s i)
-    lacks {first} {last} h other = go (holds key (slot s i)) refl
-      where
-        go : (t : Bool) → holds key (slot s i) ≡ t → false ≡ holds key (slot s i)
-        go false e = sym e
-        go true e = absurd (other (record { same = λ j lo hi. (holds_agrees e).same j (omega arith) (omega arith) }))
-
-    module _ {n : ℕ} {front : Bool} (told : Decides front (Agrees s (256 + 624 * i + 2) key 0 n)) where
-      -- some of the bytes in front differ
-      pub slot_other : front ≡ false → n ≤ length key → false ≡ holds key (slot s i)
-      slot_other bad h = lacks h (λ all. false≢true (sym bad ∙ told.1 all))
-
-      -- where those in front are the same, the rest decides
-      pub slot_rest : (rest : Bool) → get_or s (256 + 624 * i) 0 ≡ 1 → front ≡ true
-          → Decides rest (Agrees s (256 + 624 * i + 2) key n (length key)) → rest ≡ holds key (slot s i)
-      slot_rest true used good left =
-          sym
-          (matches s i fits byte key used long λ k h.
-          ⊎_elim (λ (l : k < n). (told.0 good).same k (omega arith) l) (λ g. (left.0 refl).same k g h) (less_or k n))
-      slot_rest false used good left = lacks (omega arith) (λ all. false≢true (left.1 all))
+  pub lacks : {first last : ℕ} → last ≤ length key → (Agrees s (256 + 624 * i + 2) key first last → ⊥) → holds key (slot s i) ≡ false
+  lacks {first} {last} h other = go (holds key (slot s i)) refl
+    where
+      go : (t : Bool) → holds key (slot s i) ≡ t → holds key (slot s i) ≡ false
+      go false e = e
+      go true e = absurd (other (record { same = λ j lo hi. (holds_agrees e).same j (omega arith) (omega arith) }))

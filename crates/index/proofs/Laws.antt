@@ -1,4 +1,5 @@
 -- The laws of `specs/Index.antt` and `specs/Reversed.antt`, for any hash. Assumes nothing.
+use Rattle.std.specs.Prelude.{None}
 use mathlib.Core.Path.{◌≡◌, refl, sym, ap, ◌∙◌, subst}
 use mathlib.Core.Logic.{⊎_elim}
 use mathlib.Core.Bool.{Bool, true, false, cond, false≢true}
@@ -13,7 +14,6 @@ use lib.Seq.{get_or-drop, get_or-set_same, get_or-set_other}
 use borrow.Author.Tests.{eq-eqb, ne_eqb}
 use Rattle.memory.proofs.Laws.{less_or, same_or}
 use Rattle.slots.specs.Table.{slot, slots, is_used, key_of, holds, first_where, NoKeyTwice}
-use Rattle.slots.specs.declared.Found.TheVariants.{Nothing}
 use Rattle.slots.proofs.Laws.{first_none, not_found, holds_true, holds_own}
 use Rattle.index.specs.Index.{home, entry_of, home_in, slot_in, tag_in, tag_absent, hash_absent, sign, taken, bit, used_in, Has, Tight, Indexed, Inserted, Forgotten}
 use Rattle.index.specs.Reversed.{Absent, Unreversed}
@@ -109,11 +109,11 @@ unfolding Absent
 absent_never s c key none k low used own = false≢true (sym (none k low) ∙ used_holds s key k used own)
 
 -- absent is what a search does not find
-pub absent_not_found : (s : List ℕ) (c : ℕ) (key : List ℕ) → Absent s c key → first_where (holds key) 0 (slots s c) ≡ Nothing
+pub absent_not_found : (s : List ℕ) (c : ℕ) (key : List ℕ) → Absent s c key → first_where (holds key) 0 (slots s c) ≡ None
 unfolding Absent
 absent_not_found s c key none = first_none s (holds key) c none
 
-pub not_found_absent : (s : List ℕ) (c : ℕ) (key : List ℕ) → first_where (holds key) 0 (slots s c) ≡ Nothing → Absent s c key
+pub not_found_absent : (s : List ℕ) (c : ℕ) (key : List ℕ) → first_where (holds key) 0 (slots s c) ≡ None → Absent s c key
 unfolding Absent
 not_found_absent s c key none = not_found s (holds key) c none
 

@@ -1,4 +1,3 @@
-pub mod Agree
 pub mod Hash
 pub mod Index
 pub mod Reversed

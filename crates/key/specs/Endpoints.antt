@@ -1,11 +1,8 @@
 -- What key.rs gives of the two ends of a flow.
-use Rattle.std.specs.Prelude.{◌≡◌, refl, Bool, true, false}
-use Rattle.forms.specs.declared.optional.OptU16.{OptU16}
-use Rattle.forms.specs.declared.optional.OptU32.{OptU32}
+use Rattle.std.specs.Prelude.{◌≡◌, ℕ, refl, Bool, true, false, None, Option, Some}
 use Rattle.key.specs.declared.key.Endpoints.{Endpoints}
 use Rattle.key.specs.declared.key.Endpoints.TheVariants.{Ports, SecurityAssociation, GreProtocol, None}
 use Rattle.key.specs.declared.key.PortPair.{PortPair}
-use Rattle.key.specs.declared.key.OptPorts.{OptPorts}
 
 -- "associations apart": a security association has no reverse direction
 abbrev pub has_reverse_direction : Endpoints → Bool
@@ -14,11 +11,11 @@ has_reverse_direction (SecurityAssociation spi) = false
 has_reverse_direction (GreProtocol p) = true
 has_reverse_direction None = true
 
-abbrev pub ports_of : Endpoints → OptPorts
-ports_of (Ports s d) = OptPorts.Present (record { source = s; destination = d })
-ports_of (SecurityAssociation spi) = OptPorts.Absent
-ports_of (GreProtocol p) = OptPorts.Absent
-ports_of None = OptPorts.Absent
+abbrev pub ports_of : Endpoints → Option PortPair
+ports_of (Ports s d) = Some (record { source = s; destination = d })
+ports_of (SecurityAssociation spi) = None
+ports_of (GreProtocol p) = None
+ports_of None = None
 
 -- the ports, or 0 and 0
 abbrev pub port_pair : Endpoints → PortPair
@@ -27,17 +24,17 @@ port_pair (SecurityAssociation spi) = record { source = 0; destination = 0 }
 port_pair (GreProtocol p) = record { source = 0; destination = 0 }
 port_pair None = record { source = 0; destination = 0 }
 
-abbrev pub security_association_of : Endpoints → OptU32
-security_association_of (Ports s d) = OptU32.Absent
-security_association_of (SecurityAssociation spi) = OptU32.Present spi
-security_association_of (GreProtocol p) = OptU32.Absent
-security_association_of None = OptU32.Absent
+abbrev pub security_association_of : Endpoints → Option ℕ
+security_association_of (Ports s d) = None
+security_association_of (SecurityAssociation spi) = Some spi
+security_association_of (GreProtocol p) = None
+security_association_of None = None
 
-abbrev pub gre_protocol_of : Endpoints → OptU16
-gre_protocol_of (Ports s d) = OptU16.Absent
-gre_protocol_of (SecurityAssociation spi) = OptU16.Absent
-gre_protocol_of (GreProtocol p) = OptU16.Present p
-gre_protocol_of None = OptU16.Absent
+abbrev pub gre_protocol_of : Endpoints → Option ℕ
+gre_protocol_of (Ports s d) = None
+gre_protocol_of (SecurityAssociation spi) = None
+gre_protocol_of (GreProtocol p) = Some p
+gre_protocol_of None = None
 
 -- "Reversal changes over .. ports .. only."
 abbrev pub reversed_endpoints : Endpoints → Endpoints

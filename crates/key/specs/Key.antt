@@ -1,8 +1,6 @@
 -- Key (document 01, and key.rs where it says "as key.rs gives"), with the laws of reversal.
-use Rattle.std.specs.Prelude.{ℕ, ◌≡◌, refl, List, [], ◌∷◌, cond, eqb}
+use Rattle.std.specs.Prelude.{ℕ, ◌≡◌, refl, List, [], ◌∷◌, cond, eqb, None, Option, Some}
 use Rattle.std.proofs.Common.{ap}
-use Rattle.forms.specs.declared.optional.OptU8.{OptU8}
-use Rattle.forms.specs.declared.optional.OptU16.{OptU16}
 use Rattle.key.specs.Endpoints.{has_reverse_direction, reversed_endpoints, endpoints_twice, endpoints_both}
 use Rattle.key.specs.declared.key.Address.{Address}
 use Rattle.key.specs.declared.key.Endpoints.{Endpoints}
@@ -72,24 +70,24 @@ name_bytes n =
     (cond (eqb n 13) (0x73 ∷ 0x63 ∷ 0x74 ∷ 0x70 ∷ []) []))))))))))))
 
 -- ARP's name by its EtherType, else that of the protocol number
-abbrev pub name_under : ℕ → OptU16 → ℕ
-name_under p OptU16.Absent = name_of p
-name_under p (OptU16.Present t) = cond (eqb t 0x0806) 1 (name_of p)
+abbrev pub name_under : ℕ → Option ℕ → ℕ
+name_under p None = name_of p
+name_under p (Some t) = cond (eqb t 0x0806) 1 (name_of p)
 
 abbrev pub key_name : FlowKey → ℕ
 key_name k = name_under k.protocol k.ethertype
 
 -- ---- the IP version: none where there is an EtherType, else by the source address
 
-abbrev pub family_of : Address → OptU8
-family_of (Address.V4 a) = OptU8.Present 4
-family_of (Address.V6 h l) = OptU8.Present 6
+abbrev pub family_of : Address → Option ℕ
+family_of (Address.V4 a) = Some 4
+family_of (Address.V6 h l) = Some 6
 
-abbrev pub version_under : Address → OptU16 → OptU8
-version_under a OptU16.Absent = family_of a
-version_under a (OptU16.Present t) = OptU8.Absent
+abbrev pub version_under : Address → Option ℕ → Option ℕ
+version_under a None = family_of a
+version_under a (Some t) = None
 
-abbrev pub version_of : FlowKey → OptU8
+abbrev pub version_of : FlowKey → Option ℕ
 version_of k = version_under k.source k.ethertype
 
 -- ---- laws of reversal

@@ -1,12 +1,9 @@
 -- The key form (document 01, "Byte forms"): protocol; ethertype; endpoints; source, destination; two MACs; VLAN tags; encapsulation.
-use Rattle.std.specs.Prelude.{ℕ, zero, suc, ◌-◌, ◌^◌, ◌≡◌, refl, [], ◌∷◌}
+use Rattle.std.specs.Prelude.{ℕ, zero, suc, ◌-◌, ◌^◌, ◌≡◌, refl, [], ◌∷◌, None, Option, Some}
 use Rattle.std.proofs.Common.{sym, ap}
-use Rattle.forms.specs.Form.{Form, Read, got, short, refused, only, only_is, over, over_image, follow, pair, raw, Alt, alt, alt_only, choice}
+use Rattle.forms.specs.Form.{Form, only, only_is, over, over_image, follow, pair, raw, Alt, alt, alt_only, choice}
 use Rattle.forms.specs.Number.{number}
 use Rattle.forms.specs.Optional.{optional16, optional32}
-use Rattle.forms.specs.Lone.{Answer, value, refusal, Written, wrote, unwritten}
-use Rattle.forms.specs.declared.optional.OptU16.{OptU16}
-use Rattle.forms.specs.declared.optional.OptU32.{OptU32}
 use Rattle.key.specs.declared.key.Address.{Address}
 use Rattle.key.specs.declared.key.Address.TheVariants.{V4, V6}
 use Rattle.key.specs.declared.key.Endpoints.{Endpoints}
@@ -15,11 +12,7 @@ use Rattle.key.specs.declared.key.FlowKey.{FlowKey}
 use Rattle.key.specs.declared.link.MacAddress.{MacAddress}
 use Rattle.key.specs.declared.vlan.VlanTags.{VlanTags}
 use Rattle.key.specs.declared.vlan.VlanTags.TheVariants.{Untagged, Single, Double}
-use Rattle.key.specs.declared.encapsulation.OptEncapsulation.{OptEncapsulation}
-use Rattle.key.specs.declared.encapsulation.OptEncapsulation.TheVariants.{Absent, Present}
-use Rattle.key.specs.declared.form.KeyAt.{KeyAt}
-use Rattle.key.specs.declared.form.ReadKey.{ReadKey}
-use Rattle.key.specs.declared.form.WroteKey.{WroteKey}
+use Rattle.key.specs.declared.encapsulation.Encapsulation.{Encapsulation}
 
 -- ---- "endpoints (0 none; 1 ports, source, destination; 2 association, 32-bit SPI; 3 GRE, 16-bit protocol)"
 
@@ -123,32 +116,32 @@ vlan = choice vlan_count untagged (single ∷ double ∷ [])
 -- ---- "encapsulation (optional 8-bit kind ..), followed, only if present, by id (optional 32-bit)"
 
 -- the kind as an optional
-abbrev pub kind_number : OptEncapsulation → ℕ
-kind_number Absent = 0
-kind_number (Present e) = suc e.kind
+abbrev pub kind_number : Option Encapsulation → ℕ
+kind_number None = 0
+kind_number (Some e) = suc e.kind
 
-abbrev pub id_behind : OptEncapsulation → OptU32
-id_behind Absent = OptU32.Absent
-id_behind (Present e) = e.id
+abbrev pub id_behind : Option Encapsulation → Option ℕ
+id_behind None = None
+id_behind (Some e) = e.id
 
-abbrev pub tunnel : ℕ → OptU32 → OptEncapsulation
-tunnel k i = Present (record { kind = k; id = i })
+abbrev pub tunnel : ℕ → Option ℕ → Option Encapsulation
+tunnel k i = Some (record { kind = k; id = i })
 
-abbrev pub behind_kind : ℕ → Form OptEncapsulation
-behind_kind zero = only Absent
+abbrev pub behind_kind : ℕ → Form (Option Encapsulation)
+behind_kind zero = only None
 behind_kind (suc k) = over (tunnel k) id_behind optional32 (λ x v. refl)
 
-pub kind_agrees : (n : ℕ) (e : OptEncapsulation) → (number 256).valid n → (behind_kind n).valid e → kind_number e ≡ n
-kind_agrees zero e v w = ap kind_number (only_is Absent e w)
+pub kind_agrees : (n : ℕ) (e : Option Encapsulation) → (number 256).valid n → (behind_kind n).valid e → kind_number e ≡ n
+kind_agrees zero e v w = ap kind_number (only_is None e w)
 kind_agrees (suc k) e v w = sym (ap kind_number (over_image (tunnel k) id_behind optional32 (λ x v. refl) e w))
 
-unfoldable pub encapsulation : Form OptEncapsulation
+unfoldable pub encapsulation : Form (Option Encapsulation)
 encapsulation = follow (number 256) kind_number behind_kind kind_agrees
 
 -- ---- the key
 
 abbrev pub Fields : Type 0
-Fields = ℕ × (OptU16 × (Endpoints × (Address × (Address × (MacAddress × (MacAddress × (VlanTags × OptEncapsulation)))))))
+Fields = ℕ × (Option ℕ × (Endpoints × (Address × (Address × (MacAddress × (MacAddress × (VlanTags × Option Encapsulation)))))))
 
 abbrev pub to_key : Fields → FlowKey
 to_key (p, (t, (e, (a, (b, (m, (n, (g, c)))))))) =
@@ -163,21 +156,3 @@ key =
     over to_key from_key
     (pair (number 255) (pair (optional16 65535) (pair endpoints (pair address (pair address (pair mac (pair mac (pair vlan encapsulation))))))))
     (λ x v. refl)
-
--- ---- what the answers of the calls say
-
-abbrev pub key_at : KeyAt → Read FlowKey ℕ
-key_at (KeyAt.Value k next) = got k next
-key_at KeyAt.Short = short
-key_at KeyAt.Refused = refused
-
--- Packet is 4, Short is 9
-abbrev pub key_read : ReadKey → Answer FlowKey
-key_read (ReadKey.Value k used) = value k used
-key_read ReadKey.Packet = refusal 4
-key_read ReadKey.Short = refusal 9
-
--- Room is 7
-abbrev pub key_wrote : WroteKey → Written
-key_wrote (WroteKey.Bytes n) = wrote n
-key_wrote WroteKey.Room = unwritten 7

@@ -1,33 +1,29 @@
 -- What each `return` of key.rt answers, from what its match, its tests and its calls give. Assumes nothing.
-use Rattle.std.specs.Prelude.{ℕ, ◌%◌, ◌≤◌, ◌<◌, ◌≡◌, refl}
+use Rattle.std.specs.Prelude.{ℕ, ◌%◌, ◌≤◌, ◌<◌, ◌≡◌, refl, None, Option, Some, unwrap_or}
 use Rattle.std.proofs.Common.{le-leb, ne_eqb}
 use Rattle.std.proofs.lemmas.Bool.{lt-leb}
 use Rattle.std.specs.Int.Bits.{bit_xor, xor_zero_l}
-use Rattle.arith.specs.Words.{rotate_left}
-use Rattle.forms.specs.declared.optional.OptU16.{OptU16}
-use Rattle.forms.specs.declared.optional.OptU32.{OptU32}
+use Rattle.key.specs.Words.{rotate_left}
 use Rattle.key.specs.Endpoints.{ports_of, port_pair, security_association_of, gre_protocol_of, reversed_endpoints}
 use Rattle.key.specs.Key.{reversed_key, name_of, name_under}
-use Rattle.key.specs.Shard.{address_hash, endpoint_hash, vlan_hash, or_zero32, tunnel_hash, pair_hash, symmetric_hash, final_mix, shard_of}
+use Rattle.key.specs.Shard.{address_hash, endpoint_hash, vlan_hash, tunnel_hash, pair_hash, symmetric_hash, final_mix, shard_of}
 use Rattle.key.specs.declared.encapsulation.Encapsulation.{Encapsulation}
-use Rattle.key.specs.declared.encapsulation.OptEncapsulation.{OptEncapsulation}
 use Rattle.key.specs.declared.key.Address.{Address}
 use Rattle.key.specs.declared.key.Endpoints.{Endpoints}
 use Rattle.key.specs.declared.key.Endpoints.TheVariants.{Ports, SecurityAssociation, GreProtocol, None}
 use Rattle.key.specs.declared.key.FlowKey.{FlowKey}
-use Rattle.key.specs.declared.key.OptPorts.{OptPorts}
 use Rattle.key.specs.declared.key.PortPair.{PortPair}
 use Rattle.key.specs.declared.vlan.VlanTags.{VlanTags}
 
 -- ---- endpoints
 
-pub ports_of_lem : {e : Endpoints} {s d : ℕ} → e ≡ Ports s d → OptPorts.Present (record { source = s; destination = d }) ≡ ports_of e
+pub ports_of_lem : {e : Endpoints} {s d : ℕ} → e ≡ Ports s d → Some (record { source = s; destination = d }) ≡ ports_of e
 ports_of_lem e = rw e
 
-pub association_of : {e : Endpoints} {spi : ℕ} → e ≡ SecurityAssociation spi → OptU32.Present spi ≡ security_association_of e
+pub association_of : {e : Endpoints} {spi : ℕ} → e ≡ SecurityAssociation spi → Some spi ≡ security_association_of e
 association_of e = rw e
 
-pub gre_of : {e : Endpoints} {p : ℕ} → e ≡ GreProtocol p → OptU16.Present p ≡ gre_protocol_of e
+pub gre_of : {e : Endpoints} {p : ℕ} → e ≡ GreProtocol p → Some p ≡ gre_protocol_of e
 gre_of e = rw e
 
 pub reversed_ports : {e : Endpoints} {s d : ℕ} → e ≡ Ports s d → Ports d s ≡ reversed_endpoints e
@@ -40,13 +36,13 @@ pub reversed_gre : {e : Endpoints} {p : ℕ} → e ≡ GreProtocol p → GreProt
 reversed_gre e = rw e
 
 -- the ports that are there, and 0 and 0 where there are none
-pub pair_present : (e : Endpoints) {p : OptPorts} {q : PortPair} → p ≡ ports_of e → p ≡ OptPorts.Present q → q ≡ port_pair e
+pub pair_present : (e : Endpoints) {p : Option PortPair} {q : PortPair} → p ≡ ports_of e → p ≡ Some q → q ≡ port_pair e
 pair_present (Ports s d) f g = cc
 pair_present (SecurityAssociation spi) f g = cc
 pair_present (GreProtocol n) f g = cc
 pair_present None f g = cc
 
-pub pair_absent : (e : Endpoints) {p : OptPorts} → p ≡ ports_of e → p ≡ OptPorts.Absent → record { source = 0; destination = 0 } ≡ port_pair e
+pub pair_absent : (e : Endpoints) {p : Option PortPair} → p ≡ ports_of e → p ≡ None → record { source = 0; destination = 0 } ≡ port_pair e
 pair_absent (Ports s d) f g = cc
 pair_absent (SecurityAssociation spi) f g = refl
 pair_absent (GreProtocol n) f g = refl
@@ -75,10 +71,10 @@ pub unnamed : (p : ℕ) → (p ≡ 1 → ⊥) → (p ≡ 2 → ⊥) → (p ≡ 6
 unnamed p n1 n2 n6 n17 n41 n47 n50 n51 n58 n89 n112 n132 = simp ne_eqb
 
 -- no EtherType, and one that is not ARP's
-pub named_plain : (p : ℕ) {o : OptU16} {r : ℕ} → o ≡ OptU16.Absent → r ≡ name_of p → r ≡ name_under p o
+pub named_plain : (p : ℕ) {o : Option ℕ} {r : ℕ} → o ≡ None → r ≡ name_of p → r ≡ name_under p o
 named_plain p e f = rw e f
 
-pub named_other : (p : ℕ) {o : OptU16} {t r : ℕ} → o ≡ OptU16.Present t → (t ≡ 0x0806 → ⊥) → r ≡ name_of p → r ≡ name_under p o
+pub named_other : (p : ℕ) {o : Option ℕ} {t r : ℕ} → o ≡ Some t → (t ≡ 0x0806 → ⊥) → r ≡ name_of p → r ≡ name_under p o
 named_other p {t = t} e n f = rw (e, ne_eqb t 0x0806 n) f
 
 -- ---- the shard
@@ -99,11 +95,11 @@ pub hash_double : {v : VlanTags} {t u turned r : ℕ} → v ≡ VlanTags.Double 
 unfolding vlan_hash
 hash_double {t = t} e f g = rw (e, xor_zero_l t, g, f)
 
-pub hash_no_tunnel : (value : ℕ) {o : OptEncapsulation} → o ≡ OptEncapsulation.Absent → value ≡ tunnel_hash value o
+pub hash_no_tunnel : (value : ℕ) {o : Option Encapsulation} → o ≡ None → value ≡ tunnel_hash value o
 unfolding tunnel_hash
 hash_no_tunnel value e = rw e
 
-pub hash_tunnel : (value : ℕ) {id turned with-id r : ℕ} {o : OptEncapsulation} (t : Encapsulation) → o ≡ OptEncapsulation.Present t → id ≡ or_zero32 t.id → turned ≡ rotate_left id 32
+pub hash_tunnel : (value : ℕ) {id turned with-id r : ℕ} {o : Option Encapsulation} (t : Encapsulation) → o ≡ Some t → id ≡ unwrap_or t.id 0 → turned ≡ rotate_left id 32
     → with-id ≡ bit_xor value turned → r ≡ bit_xor with-id t.kind → r ≡ tunnel_hash value o
 unfolding tunnel_hash
 hash_tunnel value t e f g h i = rw (e, i, h, g, f)

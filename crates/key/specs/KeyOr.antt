@@ -1,12 +1,13 @@
 -- The key that was read; where there is none, one of zeros. Assumes nothing.
-use Rattle.forms.specs.Form.{Read, got, short, refused}
-use Rattle.forms.specs.declared.optional.OptU16.{OptU16}
+use Rattle.std.specs.Prelude.{None}
+use Rattle.forms.specs.Form.{Read, got}
 use Rattle.key.specs.declared.key.Address.{Address}
 use Rattle.key.specs.declared.key.Endpoints.{Endpoints}
 use Rattle.key.specs.declared.key.FlowKey.{FlowKey}
 use Rattle.key.specs.declared.link.MacAddress.{MacAddress}
 use Rattle.key.specs.declared.vlan.VlanTags.{VlanTags}
-use Rattle.key.specs.declared.encapsulation.OptEncapsulation.{OptEncapsulation}
+use Rattle.forms.specs.Form.{stop}
+use Rattle.forms.specs.declared.stop.Stop.{Stop}
 
 -- an address of zeros
 abbrev pub no_mac : MacAddress
@@ -20,14 +21,14 @@ no_key =
       destination = Address.V4 0;
       endpoints = Endpoints.None;
       protocol = 0;
-      ethertype = OptU16.Absent;
+      ethertype = None;
       source_mac = no_mac;
       destination_mac = no_mac;
       vlan = VlanTags.Untagged;
-      encapsulation = OptEncapsulation.Absent;
+      encapsulation = None;
     }
 
 abbrev pub key_or : {R : Type 0} → Read FlowKey R → FlowKey
 key_or (got k rest) = k
-key_or short = no_key
-key_or refused = no_key
+key_or (stop Stop.Short) = no_key
+key_or (stop Stop.Refused) = no_key

@@ -1,8 +1,8 @@
 -- The key form in document 01's words: what may be written, at most 72 bytes, what was written is read back, and equal bytes
 -- are equal keys.
-use Rattle.std.specs.Prelude.{ℕ, suc, ◌+◌, ◌^◌, ◌≤◌, ◌<◌, ◌≡◌, refl, List, [], ◌∷◌, ◌++◌, length}
+use Rattle.std.specs.Prelude.{ℕ, suc, ◌+◌, ◌^◌, ◌≤◌, ◌<◌, ◌≡◌, refl, List, [], ◌∷◌, ◌++◌, length, None, Option, Some}
 use Rattle.std.proofs.Common.{arith, length-append}
-use Rattle.forms.specs.Form.{got, short, only_is_valid, over_is_valid, over_fits, over_ends, follow_is_valid, follow_first, follow_second, pair_ends, pair_first, pair_second, pair_valid, raw, raw_length, below_raw, raw_is_below, choice_is_valid, choice_inside}
+use Rattle.forms.specs.Form.{got, only_is_valid, over_is_valid, over_fits, over_ends, follow_is_valid, follow_first, follow_second, pair_ends, pair_first, pair_second, pair_valid, raw, raw_length, below_raw, raw_is_below, choice_is_valid, choice_inside}
 use Rattle.forms.specs.Number.{number, number_bytes, number_ends, number_below, below_number}
 use Rattle.forms.specs.Length.{number_at_most, number_at_least}
 use Rattle.forms.specs.Optional.{optional32, number16, number32, optional16_valid, optional16_below, optional32_valid, optional32_below}
@@ -19,8 +19,9 @@ use Rattle.key.specs.declared.key.FlowKey.{FlowKey}
 use Rattle.key.specs.declared.link.MacAddress.{MacAddress}
 use Rattle.key.specs.declared.vlan.VlanTags.{VlanTags}
 use Rattle.key.specs.declared.vlan.VlanTags.TheVariants.{Untagged, Single, Double}
-use Rattle.key.specs.declared.encapsulation.OptEncapsulation.{OptEncapsulation}
-use Rattle.key.specs.declared.encapsulation.OptEncapsulation.TheVariants.{Absent, Present}
+use Rattle.key.specs.declared.encapsulation.Encapsulation.{Encapsulation}
+use Rattle.forms.specs.Form.{stop}
+use Rattle.forms.specs.declared.stop.Stop.{Stop}
 
 -- ---- a key in range: each number within its field's width, as the key's types have it
 
@@ -42,9 +43,9 @@ VlanInRange Untagged = Unit
 VlanInRange (Single t) = t < 2 ^ 16
 VlanInRange (Double t u) = (t < 2 ^ 16) × (u < 2 ^ 16)
 
-abbrev pub EncapsulationInRange : OptEncapsulation → Type 0
-EncapsulationInRange Absent = Unit
-EncapsulationInRange (Present e) = (e.kind < 2 ^ 8) × (number32 e.id ≤ 2 ^ 32)
+abbrev pub EncapsulationInRange : Option Encapsulation → Type 0
+EncapsulationInRange None = Unit
+EncapsulationInRange (Some e) = (e.kind < 2 ^ 8) × (number32 e.id ≤ 2 ^ 32)
 
 pub record KeyInRange (k : FlowKey) : Type 0 where
   pub protocol : k.protocol < 2 ^ 8
@@ -131,19 +132,19 @@ vlan_in_range (Double t u) v =
     let second = number_below 65535 u (pair_second _ _ (t, u) both) in
     (omega arith, omega arith)
 
-encapsulation_valid : (c : OptEncapsulation) → EncapsulationInRange c → encapsulation.valid c
+encapsulation_valid : (c : Option Encapsulation) → EncapsulationInRange c → encapsulation.valid c
 unfolding encapsulation
-encapsulation_valid Absent h = follow_is_valid _ kind_number behind_kind kind_agrees Absent (below_number 256 0 (omega arith)) (only_is_valid Absent Absent refl)
-encapsulation_valid (Present e) h =
-    follow_is_valid _ kind_number behind_kind kind_agrees (Present e) (below_number 256 (suc e.kind) (omega arith))
-    (over_is_valid (tunnel e.kind) id_behind optional32 (λ x v. refl) (Present e) (optional32_valid e.id h.1) refl)
+encapsulation_valid None h = follow_is_valid _ kind_number behind_kind kind_agrees None (below_number 256 0 (omega arith)) (only_is_valid None None refl)
+encapsulation_valid (Some e) h =
+    follow_is_valid _ kind_number behind_kind kind_agrees (Some e) (below_number 256 (suc e.kind) (omega arith))
+    (over_is_valid (tunnel e.kind) id_behind optional32 (λ x v. refl) (Some e) (optional32_valid e.id h.1) refl)
 
-encapsulation_in_range : (c : OptEncapsulation) → encapsulation.valid c → EncapsulationInRange c
+encapsulation_in_range : (c : Option Encapsulation) → encapsulation.valid c → EncapsulationInRange c
 unfolding encapsulation
-encapsulation_in_range Absent v = tt
-encapsulation_in_range (Present e) v =
-    let kind = number_below 256 (suc e.kind) (follow_first _ kind_number behind_kind kind_agrees (Present e) v) in
-    let id = optional32_below e.id (over_fits (tunnel e.kind) id_behind optional32 (λ x v. refl) (Present e) (follow_second _ kind_number behind_kind kind_agrees (Present e) v)) in
+encapsulation_in_range None v = tt
+encapsulation_in_range (Some e) v =
+    let kind = number_below 256 (suc e.kind) (follow_first _ kind_number behind_kind kind_agrees (Some e) v) in
+    let id = optional32_below e.id (over_fits (tunnel e.kind) id_behind optional32 (λ x v. refl) (Some e) (follow_second _ kind_number behind_kind kind_agrees (Some e) v)) in
     (omega arith, id)
 
 pub key_valid : (k : FlowKey) → KeyInRange k → key.valid k
@@ -203,9 +204,9 @@ vlan_short (Single t) h = rw single_writes (omega (arith, number_at_most 2 t (om
 vlan_short (Double t u) h =
     rw double_writes (omega (arith, length-append (number_bytes t) (number_bytes u), number_at_most 2 t (omega arith), number_at_most 2 u (omega arith)))
 
-encapsulation_short : (c : OptEncapsulation) → EncapsulationInRange c → length (encapsulation.write c) ≤ 7
-encapsulation_short Absent h = rw no_tunnel_writes (omega (arith, number_at_most 0 0 (omega arith)))
-encapsulation_short (Present e) h =
+encapsulation_short : (c : Option Encapsulation) → EncapsulationInRange c → length (encapsulation.write c) ≤ 7
+encapsulation_short None h = rw no_tunnel_writes (omega (arith, number_at_most 0 0 (omega arith)))
+encapsulation_short (Some e) h =
     rw tunnel_writes
     (omega (
       arith,
@@ -242,9 +243,9 @@ vlan_some Untagged = rw untagged_writes (omega arith)
 vlan_some (Single t) = rw single_writes (omega arith)
 vlan_some (Double t u) = rw double_writes (omega arith)
 
-encapsulation_some : (c : OptEncapsulation) → 1 ≤ length (encapsulation.write c)
-encapsulation_some Absent = rw no_tunnel_writes (number_at_least 0)
-encapsulation_some (Present e) =
+encapsulation_some : (c : Option Encapsulation) → 1 ≤ length (encapsulation.write c)
+encapsulation_some None = rw no_tunnel_writes (number_at_least 0)
+encapsulation_some (Some e) =
     rw tunnel_writes (omega (arith, length-append (number_bytes (e.kind + 1)) (number_bytes (number32 e.id)), number_at_least (e.kind + 1)))
 
 pub key_at_least : (k : FlowKey) → 27 ≤ length (key.write k)
@@ -260,7 +261,7 @@ key_at_least k =
 
 -- ---- reading
 
-pub key_ends : key.read [] ≡ short
+pub key_ends : key.read [] ≡ stop Stop.Short
 unfolding key
 key_ends = over_ends to_key from_key _ (λ x v. refl) (pair_ends (number 255) _ (number_ends 255))
 

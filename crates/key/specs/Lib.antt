@@ -1,3 +1,5 @@
+pub mod Words
+pub mod WordLaws
 pub mod Endpoints
 pub mod Key
 pub mod Shard

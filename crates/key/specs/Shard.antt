@@ -1,16 +1,14 @@
 -- The shard: key.rs's formula, bit for bit, and that a key and its reverse agree.
-use Rattle.std.specs.Prelude.{ℕ, ◌*◌, ◌%◌, ◌^◌, ◌≡◌, List, [], ◌∷◌, cond, leb}
+use Rattle.std.specs.Prelude.{ℕ, ◌*◌, ◌%◌, ◌^◌, ◌≡◌, List, [], ◌∷◌, cond, leb, None, Option, Some, unwrap_or}
 use Rattle.std.specs.Int.Bits.{bit_xor}
 use Rattle.std.proofs.lemmas.Nat.{xor_comm}
-use Rattle.arith.specs.Words.{wrapping_mul, rotate_left, shift_right}
-use Rattle.forms.specs.declared.optional.OptU16.{OptU16}
-use Rattle.forms.specs.declared.optional.OptU32.{OptU32}
+use Rattle.key.specs.Words.{wrapping_mul, rotate_left, shift_right}
 use Rattle.key.specs.Endpoints.{port_pair, pair_turned}
 use Rattle.key.specs.Key.{reversed_key}
 use Rattle.key.specs.declared.key.Address.{Address}
 use Rattle.key.specs.declared.key.FlowKey.{FlowKey}
 use Rattle.key.specs.declared.vlan.VlanTags.{VlanTags}
-use Rattle.key.specs.declared.encapsulation.OptEncapsulation.{OptEncapsulation}
+use Rattle.key.specs.declared.encapsulation.Encapsulation.{Encapsulation}
 
 -- an address as one number
 abbrev pub address_hash : Address → ℕ
@@ -20,14 +18,6 @@ address_hash (Address.V6 high low) = bit_xor high (rotate_left low 17)
 -- one endpoint as one number
 unfoldable pub endpoint_hash : Address → ℕ → ℕ
 endpoint_hash a port = bit_xor (wrapping_mul (address_hash a) 0xC2B2AE3D27D4EB4F) (rotate_left port 48)
-
-abbrev pub or_zero16 : OptU16 → ℕ
-or_zero16 OptU16.Absent = 0
-or_zero16 (OptU16.Present v) = v
-
-abbrev pub or_zero32 : OptU32 → ℕ
-or_zero32 OptU32.Absent = 0
-or_zero32 (OptU32.Present v) = v
 
 -- the tags, outermost first
 abbrev pub tags_of : VlanTags → List ℕ
@@ -43,9 +33,9 @@ fold_tags acc (t ∷ ts) = fold_tags (bit_xor (rotate_left acc 16) t) ts
 unfoldable pub vlan_hash : VlanTags → ℕ
 vlan_hash v = fold_tags 0 (tags_of v)
 
-unfoldable pub tunnel_hash : ℕ → OptEncapsulation → ℕ
-tunnel_hash value OptEncapsulation.Absent = value
-tunnel_hash value (OptEncapsulation.Present e) = bit_xor (bit_xor value (rotate_left (or_zero32 e.id) 32)) e.kind
+unfoldable pub tunnel_hash : ℕ → Option Encapsulation → ℕ
+tunnel_hash value None = value
+tunnel_hash value (Some e) = bit_xor (bit_xor value (rotate_left (unwrap_or e.id 0) 32)) e.kind
 
 -- the two endpoints, unordered
 unfoldable pub pair_hash : FlowKey → ℕ
@@ -55,7 +45,7 @@ pair_hash k = bit_xor (endpoint_hash k.source (port_pair k.endpoints).source) (e
 unfoldable pub symmetric_hash : FlowKey → ℕ
 symmetric_hash k =
     tunnel_hash
-    (bit_xor (bit_xor (bit_xor (wrapping_mul (pair_hash k) 0x9E3779B97F4A7C15) k.protocol) (or_zero16 k.ethertype * 2 ^ 8)) (vlan_hash k.vlan))
+    (bit_xor (bit_xor (bit_xor (wrapping_mul (pair_hash k) 0x9E3779B97F4A7C15) k.protocol) (unwrap_or k.ethertype 0 * 2 ^ 8)) (vlan_hash k.vlan))
     k.encapsulation
 
 unfoldable pub spread : ℕ → ℕ

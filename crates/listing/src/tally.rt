@@ -1,32 +1,51 @@
-// Counting the lines, and saying how many there were.
-use crate::line::print;
-use std::io::Stdout;
+//! Counting the lines, and saying how many there were.
+use std::alloc::{AllocError, Global};
+use std::fmt;
+use std::fmt::Display;
 
-// No list is so long that a count ends at the top.
-pub fn one_more(n: u64) -> u64 {
-    more(n, 1)
+/// How many there were of each thing that is counted, and how many of all lines differ. No list is so long that a count ends at
+/// the top.
+#[derive(Debug, Drop)]
+pub struct Tally<C> {
+    counts: Vec<(C, u64)>,
+    differ: u64,
 }
 
-pub fn more(n: u64, by: u64) -> u64 {
-    if by <= 0xffff_ffff_ffff_ffff - n {
-        n + by
-    } else {
-        n
+impl<C: Copy + PartialEq> Tally<C> {
+    /// Nothing is counted yet. The summary has this order.
+    pub fn new(alloc: Global, counted: &[C]) -> Result<Self, AllocError> {
+        Ok(Tally {
+            counts: counted.iter().map(|what| (*what, 0)).collect(alloc)?,
+            differ: 0,
+        })
+    }
+
+    pub fn add(&mut self, counted: C, by: u64) {
+        for (what, count) in self.counts.iter_mut() {
+            if *what == counted {
+                *count = count.saturating_add(by);
+            }
+        }
+    }
+
+    pub fn add_difference(&mut self) {
+        self.differ = self.differ.saturating_add(1);
     }
 }
 
-// A count, behind its name.
-pub fn print_count(stdout: Stdout, name: &[u8], n: u64) {
-    print(stdout, name);
-    let _ = print!(stdout; "{n}");
-}
-
-// How many of all lines differ: the end of the summary. Answers whether it could be written, which tells of all lines: where a pipe is
-// closed or a disk is full, it stays so.
-pub fn print_verdict(stdout: Stdout, differ: u64) -> bool {
-    if differ == 0 {
-        return print(stdout, b": all agree\n");
+impl<C: Display> Display for Tally<C> {
+    fn fmt<W: fmt::Write>(&self, f: &mut fmt::Formatter<W>) -> fmt::Result {
+        if self.differ == 0 && self.counts.iter().all(|(_, count)| *count == 0) {
+            return f.write_str("no lines");
+        }
+        let mut separator = "";
+        for (what, count) in self.counts.iter() {
+            write!(f, "{separator}{what} {count}")?;
+            separator = ", ";
+        }
+        match self.differ {
+            0 => f.write_str(": all agree"),
+            differ => write!(f, ": {differ} differ"),
+        }
     }
-    print_count(stdout, b": ", differ);
-    print(stdout, b" differ\n")
 }

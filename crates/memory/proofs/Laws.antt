@@ -4,14 +4,15 @@ use mathlib.Core.Logic.{⊎_elim, ◌⊎◌, inl, inr}
 use mathlib.Core.Bool.{Bool, true, false}
 use lib.Dec.{ltb, eqb}
 use borrow.Author.Tests.{ltb-true, ltb-false, eqb-true, eqb-false}
-use Prim.Native.Nat.{ℕ, zero, suc, ◌+◌, ◌-◌, ◌*◌, ◌/◌, ◌%◌, ◌^◌, ◌≤◌, ◌<◌}
-use native.Mathlib.Nat.{pow-succ', add_assoc, mul_assoc, mod-add-div, zero-add, suc-add, div-one, div-div-eq-div-mul, eq-or-lt_of_le}
+use Prim.Native.Nat.{ℕ, zero, suc, ◌+◌, ◌-◌, ◌/◌, ◌^◌, ◌≤◌, ◌<◌}
+use native.Mathlib.Nat.{pow-succ', add_assoc, eq-or-lt_of_le}
 use native.Mathlib.Numerals.{add-one}
 use native.Mathlib.Omega.{arith}
 use mathlib.Core.List.{List, [], ◌∷◌, ◌++◌, append_assoc}
 use lib.ListN.{length, replicate, length-replicate, get_or-replicate, take, drop, get_or, set, length-append, length-take, length-drop, length-set, take-append-drop, get_or-append}
-use lib.Seq.{length-take-le, get_or-take, get_or-drop, get_or-append-add, ext_get_or, drop_at, take_at, take-take, take-add, drop-drop, drop-append-le, drop-cons, set_split, take-suc, take_all}
+use lib.Seq.{length-take-le, get_or-take, get_or-drop, get_or-append-add, ext_get_or, drop_at, take_at, take-take, take-add, drop-drop, drop-append-le, set_split}
 use borrow.Rule.Slice.PartMut.{put_mid}
+use Rattle.std.specs.Int.{w64, from_le_bytes, to_le_bytes}
 use Rattle.memory.specs.Decides.{Decides}
 use Rattle.memory.specs.Bytes.{num, le, part, patch}
 
@@ -139,64 +140,49 @@ num_le (suc n) v h =
     let small : v / 256 < 256 ^ n = omega (arith, pow-succ' 256 n) in
     omega (arith, num_le n (v / 256) small)
 
--- what stands above the low n bytes does not show in them
-le_above : (n v w : ℕ) → le n (v + 256 ^ n * w) ≡ le n v
+-- std's words for a number and its eight bytes
+pub num_of_le : (s : List ℕ) (at : ℕ) → at + 8 ≤ length s → from_le_bytes w64 (take 8 (drop at s)) ≡ num (take 8 (drop at s))
+unfolding num part
+num_of_le s at h = go (take 8 (drop at s)) (length_part s at 8 h)
+  where
+    go : (bs : List ℕ) → length bs ≡ 8 → from_le_bytes w64 bs ≡ num bs
+    go [] l = absurd (omega arith)
+    go (a ∷ []) l = absurd (omega arith)
+    go (a ∷ b ∷ []) l = absurd (omega arith)
+    go (a ∷ b ∷ c ∷ []) l = absurd (omega arith)
+    go (a ∷ b ∷ c ∷ d ∷ []) l = absurd (omega arith)
+    go (a ∷ b ∷ c ∷ d ∷ e ∷ []) l = absurd (omega arith)
+    go (a ∷ b ∷ c ∷ d ∷ e ∷ f ∷ []) l = absurd (omega arith)
+    go (a ∷ b ∷ c ∷ d ∷ e ∷ f ∷ g ∷ []) l = absurd (omega arith)
+    go (a ∷ b ∷ c ∷ d ∷ e ∷ f ∷ g ∷ h ∷ []) l = omega arith
+    go (a ∷ b ∷ c ∷ d ∷ e ∷ f ∷ g ∷ h ∷ i ∷ bs) l = absurd (omega arith)
+
+pub le_of_le : (v : ℕ) → to_le_bytes w64 v ≡ le 8 v
 unfolding le
-le_above zero v w = refl
-le_above (suc n) v w =
-    let x : ℕ = 256 ^ n * w in
-    let e : 256 ^ suc n * w ≡ 256 * x = ap (λ (p : ℕ). p * w) (pow-succ' 256 n) ∙ mul_assoc 256 (256 ^ n) w in
-    let low : (v + 256 ^ suc n * w) % 256 ≡ v % 256 = omega arith in
-    let high : (v + 256 ^ suc n * w) / 256 ≡ v / 256 + x = omega arith in
-    ap (λ (b : ℕ). b ∷ le n ((v + 256 ^ suc n * w) / 256)) low
-    ∙ ap (λ (u : ℕ). v % 256 ∷ le n u) high
-    ∙ ap (λ (bs : List ℕ). v % 256 ∷ bs) (le_above n (v / 256) w)
+le_of_le v = cc (two, three, four, five, six, seven)
+  where
+    two : v / 65536 ≡ v / 256 / 256
+    two = omega arith
 
-pub le_low : (n v : ℕ) → le n (v % 256 ^ n) ≡ le n v
-le_low n v = sym (le_above n (v % 256 ^ n) (v / 256 ^ n)) ∙ ap (le n) (mod-add-div v (256 ^ n))
+    three : v / 16777216 ≡ v / 256 / 256 / 256
+    three = omega arith
 
-pub le_add : (m n v : ℕ) → le (m + n) v ≡ le m v ++ le n (v / 256 ^ m)
-unfolding le
-le_add zero n v = ap (λ (k : ℕ). le k v) (zero-add n) ∙ ap (le n) (sym (div-one v))
-le_add (suc m) n v =
-    ap (λ (k : ℕ). le k v) (suc-add m n)
-    ∙ ap (λ (bs : List ℕ). v % 256 ∷ bs) (le_add m n (v / 256))
-    ∙ ap (λ (u : ℕ). v % 256 ∷ (le m (v / 256) ++ le n u)) (div-div-eq-div-mul v 256 (256 ^ m) ∙ ap (λ (p : ℕ). v / p) (sym (pow-succ' 256 m)))
+    four : v / 4294967296 ≡ v / 256 / 256 / 256 / 256
+    four = omega arith
 
-pub num_append : (xs ys : List ℕ) → num (xs ++ ys) ≡ num xs + 256 ^ length xs * num ys
-unfolding num
-num_append [] ys = omega arith
-num_append (x ∷ xs) ys =
-    let e : 256 ^ suc (length xs) * num ys ≡ 256 * (256 ^ length xs * num ys) =
-    ap (λ (p : ℕ). p * num ys) (pow-succ' 256 (length xs)) ∙ mul_assoc 256 (256 ^ length xs) (num ys) in
-    omega (arith, num_append xs ys)
+    five : v / 1099511627776 ≡ v / 256 / 256 / 256 / 256 / 256
+    five = omega arith
 
--- a number of m + n bytes, by its low m and its high n
-pub num_part : (s : List ℕ) (at m n : ℕ) → at + m ≤ length s
-    → num (part s at (m + n)) ≡ num (part s at m) + 256 ^ m * num (part s (at + m) n)
-unfolding part
-num_part s at m n h =
-    ap num (take-add m n (drop at s) ∙ ap (λ (l : List ℕ). take m (drop at s) ++ take n l) (drop-drop m at s))
-    ∙ num_append (take m (drop at s)) (take n (drop (at + m) s))
-    ∙ ap (λ (k : ℕ). num (take m (drop at s)) + 256 ^ k * num (take n (drop (at + m) s))) (length_part s at m h)
+    six : v / 281474976710656 ≡ v / 256 / 256 / 256 / 256 / 256 / 256
+    six = omega arith
 
-pub num_byte : (s : List ℕ) (at : ℕ) → at < length s → num (part s at 1) ≡ get_or s at 0
-unfolding part num
-num_byte s at h = ap (λ (l : List ℕ). num (take 1 l)) (drop-cons s at 0 h) ∙ omega arith
+    seven : v / 72057594037927936 ≡ v / 256 / 256 / 256 / 256 / 256 / 256 / 256
+    seven = omega arith
 
 -- a store of one byte
 pub set_patch : (s : List ℕ) (at b : ℕ) → at < length s → set s at b ≡ patch s at (b ∷ [])
 unfolding patch
 set_patch s at b h = set_split s at b h ∙ ap (λ (l : List ℕ). take at s ++ (b ∷ l)) (sym (drop-drop 1 at s ∙ ap (λ (k : ℕ). drop k s) (add-one at)))
-
--- the low m bytes of v stored, and the high n behind them
-pub patch_halves : (s : List ℕ) (at m n v : ℕ) → at + (m + n) ≤ length s
-    → patch (patch s at (le m (v % 256 ^ m))) (at + m) (le n (v / 256 ^ m)) ≡ patch s at (le (m + n) v)
-patch_halves s at m n v h =
-    ap (λ (l : List ℕ). patch (patch s at l) (at + m) (le n (v / 256 ^ m))) (le_low m v)
-    ∙ ap (λ (k : ℕ). patch (patch s at (le m v)) (at + k) (le n (v / 256 ^ m))) (sym (length_le m v))
-    ∙ patch_join s at (le m v) (le n (v / 256 ^ m)) (omega (arith, length_le m v, length_le n (v / 256 ^ m)))
-    ∙ ap (patch s at) (sym (le_add m n v))
 
 -- a part that was lent, `&mut s[a..a + n]`, and came back as t: the whole is patched with t
 pub put_part : (s t : List ℕ) (a n : ℕ) → length t ≡ n → put_mid a (a + n - a) s t ≡ patch s a t
@@ -204,16 +190,6 @@ unfolding patch
 put_part s t a n e =
     let k : a + n - a ≡ length t = omega arith in
     ap (λ (m : ℕ). take a s ++ (t ++ drop m (drop a s))) k
-
--- the same, where the callee patched the part
-pub put_patched : (s t : List ℕ) (a n b : ℕ) (bs : List ℕ) → a + n ≤ length s → b + length bs ≤ n
-    → t ≡ patch (part s a (a + n - a)) b bs → put_mid a (a + n - a) s t ≡ patch s (a + b) bs
-put_patched s t a n b bs fits h e =
-    let k : a + n - a ≡ n = omega arith in
-    let e' : t ≡ patch (part s a n) b bs = e ∙ ap (λ (m : ℕ). patch (part s a m) b bs) k in
-    let within : b + length bs ≤ length (part s a n) = omega (arith, length_part s a n fits) in
-    put_part s t a n (ap length e' ∙ length_patch (part s a n) b bs within ∙ length_part s a n fits)
-    ∙ ap (patch s a) e' ∙ patch_within s a n b bs h fits
 
 -- ---- cases on numbers
 
@@ -239,38 +215,6 @@ says_yes p = (λ e. p, λ q. refl)
 
 pub says_no : {P : Type 0} → (P → ⊥) → Decides false P
 says_no n = (λ e. absurd (let z : ◌≡◌ {A = ℕ} 0 1 = cc in omega arith), λ p. absurd (n p))
-
--- ---- a copy, byte by byte
-
--- src's first k bytes have been copied into s from at, which gives t
-pub record Copied (s : List ℕ) (at : ℕ) (src : List ℕ) (k : ℕ) (t : List ℕ) : Type 0 where
-  pub within : k ≤ length src
-  pub long : length t ≡ length s
-  pub is : t ≡ patch s at (take k src)
-
-pub copied_none : (s : List ℕ) (at : ℕ) (src : List ℕ) → Copied s at src 0 s
-unfolding patch
-copied_none s at src = record { within = omega arith; long = refl; is = sym (take-append-drop at s) }
-
-pub copied_more : (s : List ℕ) (at : ℕ) (src : List ℕ) (k : ℕ) (t : List ℕ) → at + length src ≤ length s → k < length src
-    → Copied s at src k t → Copied s at src (k + 1) (set t (at + k) (get_or src k 0))
-copied_more s at src k t fits more done =
-    let b : ℕ = get_or src k 0 in
-    let front : List ℕ = take k src in
-    let n : length front ≡ k = length-take-le k src (omega arith) in
-    let e : take k src ++ (b ∷ []) ≡ take (k + 1) src = sym (ap (λ (m : ℕ). take m src) (add-one k) ∙ take-suc src k 0 more) in
-    record {
-      within = omega arith;
-      long = length-set t (at + k) b ∙ done.long;
-      is =
-          set_patch t (at + k) b (omega (arith, done.long))
-          ∙ ap (λ (u : List ℕ). patch u (at + k) (b ∷ [])) done.is
-          ∙ ap (λ (m : ℕ). patch (patch s at front) (at + m) (b ∷ [])) (sym n)
-          ∙ patch_join s at front (b ∷ []) (omega arith) ∙ ap (patch s at) e;
-    }
-
-pub copied_all : (s : List ℕ) (at : ℕ) (src : List ℕ) (k : ℕ) (t : List ℕ) → length src ≤ k → Copied s at src k t → t ≡ patch s at src
-copied_all s at src k t h done = done.is ∙ ap (patch s at) (take_all k src h)
 
 -- two stores, one behind the other
 pub set_two : (s : List ℕ) (at x y : ℕ) → at + 2 ≤ length s → set (set s at x) (at + 1) y ≡ patch s at (x ∷ y ∷ [])

@@ -1,89 +1,64 @@
-// Numbers in lent memory: little-endian, at a byte offset.
+//! Numbers in lent memory: little-endian, at a byte offset.
 #![tactic(auto)]
 
 ghost use Rattle.std.specs.Prelude.{◌≡◌, ◌+◌, ◌*◌, ◌≤◌, length, replicate};
 ghost use Rattle.memory.specs.Bytes.{num, le, part, patch, bytes_of, words_at};
 
-fn load_u16(s: &[u8], at: usize) -> u16
-    requires { at + 2 ≤ length s.now }
-    ensures { result ≡ num (part s.now at 2) }
-{
-    s[at] as u16 + 256 * (s[at + 1] as u16)
-}
-
-fn load_u32(s: &[u8], at: usize) -> u32
-    requires { at + 4 ≤ length s.now }
-    ensures { result ≡ num (part s.now at 4) }
-{
-    load_u16(s, at) as u32 + 65536 * (load_u16(s, at + 2) as u32)
-}
-
+/// The number in the eight bytes from `at` on.
+#[tactic(auto, using(crate::proofs::Laws::num_of_le), unfolding(crate::specs::Bytes::part))]
 pub fn load_u64(s: &[u8], at: usize) -> u64
     requires { at + 8 ≤ length s.now }
     ensures { result ≡ num (part s.now at 8) }
 {
-    load_u32(s, at) as u64 + 0x1_0000_0000 * (load_u32(s, at + 4) as u64)
+    let Some(word) = s[at..at + 8].first_chunk() else {
+        unreachable!();
+    };
+    u64::from_le_bytes(*word)
 }
 
-fn store_u16(s: &mut [u8], at: usize, v: u16)
-    requires { at + 2 ≤ length s.old }
-    ensures { s.new ≡ patch s.old at (le 2 v) }
-{
-    s[at] = (v % 256) as u8;
-    s[at + 1] = (v / 256) as u8;
-}
-
-fn store_u32(s: &mut [u8], at: usize, v: u32)
-    requires { at + 4 ≤ length s.old }
-    ensures { s.new ≡ patch s.old at (le 4 v) }
-{
-    store_u16(s, at, (v % 65536) as u16);
-    store_u16(s, at + 2, (v / 65536) as u16);
-}
-
+/// The eight bytes from `at` on become those of `v`.
+#[tactic(auto, using(crate::proofs::Laws::le_of_le), unfolding(crate::specs::Bytes::patch))]
 pub fn store_u64(s: &mut [u8], at: usize, v: u64)
     requires { at + 8 ≤ length s.old }
     ensures { s.new ≡ patch s.old at (le 8 v) }
 {
-    store_u32(s, at, (v % 0x1_0000_0000) as u32);
-    store_u32(s, at + 4, (v / 0x1_0000_0000) as u32);
+    s[at..at + 8].copy_from_slice(&v.to_le_bytes());
 }
 
-// All of src, from at.
+/// All of `src`, from `at`.
+#[tactic(auto, unfolding(crate::specs::Bytes::patch))]
 pub fn copy_at(dst: &mut [u8], at: usize, src: &[u8])
     requires { at + length src.now ≤ length dst.old }
     ensures { dst.new ≡ patch dst.old at src.now }
 {
-    for k in 0..src.len() {
-        dst[at + k] = src[k];
-    }
+    dst[at..at + src.len()].copy_from_slice(src);
 }
 
-// Every byte of s becomes b.
+/// Every byte of `s` becomes `b`.
 pub fn fill(s: &mut [u8], b: u8)
     ensures { s.new ≡ replicate (length s.old) b }
 {
-    for k in 0..s.len() {
-        s[k] = b;
-    }
+    s.fill(b);
 }
 
-// All of ws, from at.
+/// All of `ws`, from `at`.
+#[tactic(auto, using(crate::proofs::Words::stored_none, crate::proofs::Words::stored_more, crate::proofs::Words::stored_all))]
 pub fn store_words(s: &mut [u8], at: usize, ws: &[u64])
     requires { at + 8 * length ws.now ≤ length s.old }
     ensures { s.new ≡ patch s.old at (bytes_of ws.now) }
 {
-    for k in 0..ws.len() {
-        store_u64(s, at + 8 * k, ws[k]);
+    for (k, word) in ws.iter().enumerate() {
+        store_u64(s, at + 8 * k, *word);
     }
 }
 
-// As many words from at as ws has.
+/// As many words from `at` as `ws` has.
+#[tactic(auto, using(crate::proofs::Words::loaded_more, crate::proofs::Words::loaded_all))]
 pub fn load_words(s: &[u8], at: usize, ws: &mut [u64])
     requires { at + 8 * length ws.old ≤ length s.now }
     ensures { ws.new ≡ words_at s.now at (length ws.old) }
 {
-    for k in 0..ws.len() {
-        ws[k] = load_u64(s, at + 8 * k);
+    for (k, word) in ws.iter_mut().enumerate() {
+        *word = load_u64(s, at + 8 * k);
     }
 }

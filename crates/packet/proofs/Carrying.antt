@@ -1,4 +1,8 @@
 -- The verdict is given: the packet is taken, or where it is refused the plan of its sweep is undone. Assumes nothing.
+use Rattle.packet.proofs.Sizes.{some_number}
+use Rattle.std.specs.Prelude.{Option, None, Some}
+use Rattle.forms.specs.Refusals.{stop_number}
+use Rattle.forms.specs.declared.refusal.Refusal.{Refusal}
 use Prim.Native.Nat.{ℕ}
 use mathlib.Core.Path.{◌≡◌, refl, sym, ap, ◌∙◌, subst}
 use mathlib.Core.Bool.{false, false≢true}
@@ -98,19 +102,24 @@ module _ (c T L w : ℕ) (s l : List ℕ) (n : ℕ) (d : Decision) (bytes index 
       left = left_queue (view c s) (view c s') back.same back.spare;
     }
 
-  module _ (room : List ℕ) (number : ℕ) (told : number ≡ verdict_on s c (take n l) d (length room)) where
-    pub carry_performs : number ≡ 0 → PerformAsked c T L w s l n d bytes index free room
+  module _ (room : List ℕ) (verdict : Option Refusal) (told : stop_number verdict ≡ verdict_on s c (take n l) d (length room)) where
+    pub carry_performs : verdict ≡ None → PerformAsked c T L w s l n d bytes index free room
     carry_performs z =
-        let (accepted, fits) = verdict_zero s c (take n l) d (length room) (sym told ∙ z) in
+        let (accepted, fits) = verdict_zero s c (take n l) d (length room) (sym told ∙ ap stop_number z) in
         record { carry = ask; accepted = accepted; fits = fits }
 
-    pub carried_taken : number ≡ 0 → (step : Step) (s' out index' free' : List ℕ) → Performed c T L w s (take n l) d room step s' out index' free'
+    pub carried_taken : verdict ≡ None → (step : Step) (s' out index' free' : List ℕ) → Performed c T L w s (take n l) d room step s' out index' free'
         → CarriedOut c T L w s (take n l) d room step s' out index' free'
-    carried_taken z step s' out index' free' done = record { taken = λ q. done; refused = λ m. absurd (m (sym told ∙ z)) }
+    carried_taken z step s' out index' free' done = record { taken = λ q. done; refused = λ m. absurd (m (sym told ∙ ap stop_number z)) }
 
-    pub carried_refused : (s' : List ℕ) → PutBack c T (view c s) (view c s') → (number ≡ 0 → ⊥) → (step : Step) → step ≡ refused_step number
+    pub carried_refused : (why : Refusal) → verdict ≡ Some why → (s' : List ℕ) → PutBack c T (view c s) (view c s') → (step : Step) → step ≡ refused_step why
         → CarriedOut c T L w s (take n l) d room step s' room index free
-    carried_refused s' back m step e = record {
-      taken = λ q. absurd (m (told ∙ q));
-      refused = λ k. record { answer = e ∙ ap refused_step told; stepped = put_stepped s' back; output = refl };
+    carried_refused why v s' back step e = record {
+      taken = λ q. absurd (some_number why (sym (ap stop_number v) ∙ told ∙ q));
+      refused = λ k. record {
+        number_is = ap (λ (x : Step). stop_number x.refusal) e ∙ sym (ap stop_number v) ∙ told;
+        nothing = (ap (λ (x : Step). x.opened) e, ap (λ (x : Step). x.records) e, ap (λ (x : Step). x.bytes) e);
+        stepped = put_stepped s' back;
+        output = refl;
+      };
     }

@@ -1,9 +1,9 @@
 -- Whether a packet is counted on an open flow and nothing else happens, by what was found. Assumes nothing.
+use Rattle.std.specs.Prelude.{None, Option, Some}
 use Prim.Native.Nat.{ℕ, ◌+◌, ◌*◌, ◌^◌, ◌≤◌, ◌<◌, max}
 use mathlib.Core.Path.{◌≡◌, refl, sym, ap, ◌∙◌, subst}
 use mathlib.Core.Bool.{Bool, true, false, cond, false≢true}
 use mathlib.Core.List.{List}
-use mathlib.Core.Option.{none, some}
 use native.Mathlib.Omega.{arith}
 use lib.Dec.{eqb}
 use lib.ListN.{length, replicate, length-replicate}
@@ -11,7 +11,6 @@ use Rattle.memory.specs.Bytes.{part, patch, bytes_of}
 use Rattle.memory.specs.Decides.{Decides}
 use Rattle.memory.proofs.Laws.{says_yes, says_no}
 use Rattle.slots.specs.Table.{slot}
-use Rattle.slots.specs.declared.Found.{Found}
 use Rattle.table.specs.View.{view, slot_of, with_slot, with_header}
 use Rattle.table.specs.Header.{header_of, with_clock}
 use Rattle.table.specs.declared.Header.{Header}
@@ -45,12 +44,12 @@ use Rattle.packet.proofs.Quiet.{counted_done}
 -- ## What steps 1 and 2 chose
 
 -- a flow that does not end: no RST, and not both FINs
-unended_tests : (rst closed : Bool) → cond rst (some Rst) (cond closed (some Fin) none) ≡ none → (rst ≡ false) × (closed ≡ false)
+unended_tests : (rst closed : Bool) → cond rst (Some Rst) (cond closed (Some Fin) None) ≡ None → (rst ≡ false) × (closed ≡ false)
 unended_tests true closed e = absurd (let z : ◌≡◌ {A = ℕ} 0 1 = cc in omega arith)
 unended_tests false true e = absurd (let z : ◌≡◌ {A = ℕ} 0 1 = cc in omega arith)
 unended_tests false false e = (refl, refl)
 
-module _ (s : List ℕ) (c T L w : ℕ) (p : Packet) (ended found : Found) (way : Direction) (choice : Chosen s c T L w p ended found way) where
+module _ (s : List ℕ) (c T L w : ℕ) (p : Packet) (ended found : Option ℕ) (way : Direction) (choice : Chosen s c T L w p ended found way) where
   pub found_steady : (i : ℕ) → NothingDue c T L w (view c s).tree → StaysFacts s p.facts ended found i → Steady s c T L w p
   unfolding flow_in
   found_steady i quiet h = record {
@@ -60,11 +59,11 @@ module _ (s : List ℕ) (c T L w : ℕ) (p : Packet) (ended found : Found) (way 
     flow = flow_in (slot s i);
     taker = takes_old choice i h.here;
     room = h.room;
-    stays_open = λ t. cond (h.no_rst t) (some Rst) (cond (h.unclosed t) (some Fin) none);
+    stays_open = λ t. cond (h.no_rst t) (Some Rst) (cond (h.unclosed t) (Some Fin) None);
   }
 
-  held_facts : (i : ℕ) (f : Flow engine) (d : Direction) → ended ≡ Found.Nothing → found ≡ Found.At i → flow_in (slot s i) ≡ f
-      → has_room f.held p.facts ≡ true → ending engine none p (old d f) ≡ none → StaysFacts s p.facts ended found i
+  held_facts : (i : ℕ) (f : Flow engine) (d : Direction) → ended ≡ None → found ≡ Some i → flow_in (slot s i) ≡ f
+      → has_room f.held p.facts ≡ true → ending engine None p (old d f) ≡ None → StaysFacts s p.facts ended found i
   unfolding flow_in
   held_facts i f d e q same room unended =
       let held : record_in (slot s i) ≡ f.held = ap (λ (x : Flow engine). x.held) same in
@@ -77,10 +76,10 @@ module _ (s : List ℕ) (c T L w : ℕ) (p : Packet) (ended found : Found) (way 
         room = ap (λ (r : FlowRecord). has_room r p.facts) held ∙ room;
       }
 
-  pub steady_found : Steady s c T L w p → stays_open s p.facts ended found ≡ Found.Nothing → ⊥
+  pub steady_found : Steady s c T L w p → stays_open s p.facts ended found ≡ None → ⊥
   steady_found st n = go ended found refl refl
     where
-      at_slot : (i : ℕ) → ended ≡ Found.Nothing → found ≡ Found.At i → ⊥
+      at_slot : (i : ℕ) → ended ≡ None → found ≡ Some i → ⊥
       at_slot i e q =
           let told : old way (flow_in (slot s i)) ≡ old st.direction st.flow = sym (takes_old choice i q) ∙ st.taker in
           let same : flow_in (slot s i) ≡ st.flow = cc in
@@ -89,16 +88,16 @@ module _ (s : List ℕ) (c T L w : ℕ) (p : Packet) (ended found : Found) (way 
           let z : ◌≡◌ {A = ℕ} 0 1 = cc in
           omega arith
 
-      go : (e f : Found) → ended ≡ e → found ≡ f → ⊥
-      go (Found.At j) f e q =
-          let told : some (flow_in (slot s j)) ≡ none = sym (ended_flow_lem choice j e) ∙ st.unended in
+      go : (e f : Option ℕ) → ended ≡ e → found ≡ f → ⊥
+      go (Some j) f e q =
+          let told : Some (flow_in (slot s j)) ≡ None = sym (ended_flow_lem choice j e) ∙ st.unended in
           let z : ◌≡◌ {A = ℕ} 0 1 = cc in
           omega arith
-      go Found.Nothing Found.Nothing e q =
+      go None None e q =
           let told : new ≡ old st.direction st.flow = sym (takes_new choice q) ∙ st.taker in
           let z : ◌≡◌ {A = ℕ} 0 1 = cc in
           omega arith
-      go Found.Nothing (Found.At i) e q = at_slot i e q
+      go None (Some i) e q = at_slot i e q
 
 -- ## What is asked on the way
 
@@ -115,12 +114,12 @@ module _ (s index : List ℕ) (c : ℕ) (idle : Idle) (facts : PacketFacts) (bat
     sound = (sound_names s c idle.timeout.0 ask.call.sound ask.call.capacity ask.call.timeout).sound;
   }
 
-  module _ (T L w : ℕ) (p : Packet) (ended found : Found) (way : Direction) (choice : Chosen s c T L w p ended found way) where
+  module _ (T L w : ℕ) (p : Packet) (ended found : Option ℕ) (way : Direction) (choice : Chosen s c T L w p ended found way) where
     pub steady_found_in : InState s found
     steady_found_in = sits_in s c T L w found steady_size choice.slot_sits
 
     -- the slot has a record with room for the packet
-    pub steady_counts : (r : Found) → r ≡ stays_open s facts ended found → (i : ℕ) → r ≡ Found.At i → CountAsked c i facts s
+    pub steady_counts : (r : Option ℕ) → r ≡ stays_open s facts ended found → (i : ℕ) → r ≡ Some i → CountAsked c i facts s
     steady_counts r stays i there =
         let h = stays_facts s facts ended found i (sym there ∙ stays) in
         let sits = choice.slot_sits i h.here in
@@ -157,19 +156,19 @@ module _ (s index : List ℕ) (c : ℕ) (idle : Idle) (p : Packet) (h : Header) 
   pub due_left : due ≡ false → SteadyTaken p s index c idle false s
   due_left e = not_taken (λ st. false≢true (sym e ∙ told.1 st.quiet))
 
-  module _ (ended found : Found) (way : Direction) (choice : Chosen s c T L clock.0 p ended found way) (r : Found)
+  module _ (ended found : Option ℕ) (way : Direction) (choice : Chosen s c T L clock.0 p ended found way) (r : Option ℕ)
       (stays : r ≡ stays_open s p.facts ended found) where
-    pub other_left : r ≡ Found.Nothing → SteadyTaken p s index c idle false s
+    pub other_left : r ≡ None → SteadyTaken p s index c idle false s
     other_left e = not_taken (λ st. steady_found s c T L clock.0 p ended found way choice st (sym stays ∙ e))
 
-    module _ (i : ℕ) (there : r ≡ Found.At i) where
+    module _ (i : ℕ) (there : r ≡ Some i) where
       abbrev facts : StaysFacts s p.facts ended found i
       facts = stays_facts s p.facts ended found i (sym there ∙ stays)
 
-      at_slot : Chosen s c T L clock.0 p Found.Nothing (Found.At i) way
+      at_slot : Chosen s c T L clock.0 p None (Some i) way
       at_slot =
-          subst (λ (x : Found). Chosen s c T L clock.0 p Found.Nothing x way) facts.here
-          (subst (λ (x : Found). Chosen s c T L clock.0 p x found way) facts.none_ends choice)
+          subst (λ (x : Option ℕ). Chosen s c T L clock.0 p None x way) facts.here
+          (subst (λ (x : Option ℕ). Chosen s c T L clock.0 p x found way) facts.none_ends choice)
 
       pub counted_steady : due ≡ true → PacketInRange p → clock.0 < 2 ^ 64 → (s1 s2 : List ℕ)
           → view c s1

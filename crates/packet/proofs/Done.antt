@@ -1,4 +1,6 @@
 -- What was done on the plan is what the rules tell of the packet. Assumes nothing.
+use Rattle.forms.specs.Refusals.{stop_number}
+use Rattle.std.specs.Prelude.{None, Option, Some, is_some}
 use Prim.Native.Nat.{ℕ, ◌+◌, ◌≤◌, max}
 use mathlib.Core.Path.{◌≡◌, refl, sym, ap, ◌∙◌, subst}
 use mathlib.Core.Bool.{Bool, true, false, not, cond}
@@ -9,7 +11,6 @@ use lib.Dec.{eqb, leb}
 use lib.ListN.{length, take, drop, length-map, length-take}
 use Rattle.memory.specs.Bytes.{part, patch}
 use Rattle.slots.specs.Table.{slots}
-use Rattle.slots.specs.declared.Found.{Found}
 use Rattle.table.specs.View.{View, view, slot_of}
 use Rattle.table.specs.Header.{header_of}
 use Rattle.table.specs.declared.Header.{Header}
@@ -29,7 +30,6 @@ use Rattle.rules.proofs.SlotsLaws.{cleared}
 use Rattle.rules.specs.Slots
 use Rattle.state.specs.Slot.{flow_in}
 use Rattle.state.specs.State.{Sound, SoundFlows, SoundHeader, header_in, capacity_in, settings_of, settings_in, slots_of, meaning}
-use Rattle.state.specs.SlotTest.{found_it}
 use Rattle.state.specs.Free.{free_count}
 use Rattle.state.specs.Change.{open_and_free, ready_same}
 use Rattle.plan.specs.Plan.{leaves_by, Planned, PlanAsked, PlanMade}
@@ -49,7 +49,6 @@ use Rattle.packet.specs.Step.{InCall, StepTold, PacketDone}
 use Rattle.packet.specs.Doing.{flow_found, swept_by, finished_by, verdict_on, PlannedAt, PlanStands, Stepped, CarryAsked, beside_found, Performed, Unperformed, CarriedOut}
 use Rattle.packet.proofs.Sizes.{verdict_refused, verdict_zero, verdict_seven}
 use Rattle.packet.proofs.Performing.{meaning_many, flows_one}
-use Rattle.hand.specs.Acting.{reason_of}
 
 -- as many flows stay as do not leave
 stay_many : (T L w : ℕ) (table : List (List ℕ)) (k : ℕ)
@@ -199,11 +198,11 @@ module _ (s index free : List ℕ) (c : ℕ) (idle : Idle) (resolution : TimeRes
         ended_is : flow_found s1 d.ended ≡ ended_flow p staying
         ended_is = go d.ended refl
           where
-            go : (f : Found) → d.ended ≡ f → flow_found s1 d.ended ≡ ended_flow p staying
-            go (Found.At i) e = ap (flow_found s1) e ∙ sym (ended_flow_lem choice i e)
-            go Found.Nothing e = ap (flow_found s1) e ∙ sym (ended_none choice e)
+            go : (f : Option ℕ) → d.ended ≡ f → flow_found s1 d.ended ≡ ended_flow p staying
+            go (Some i) e = ap (flow_found s1) e ∙ sym (ended_flow_lem choice i e)
+            go None e = ap (flow_found s1) e ∙ sym (ended_none choice e)
 
-        reason_is : reason_of d.reason ≡ ending engine (ended_flow p staying) p taker
+        reason_is : d.reason ≡ ending engine (ended_flow p staying) p taker
         reason_is = decided.reason
 
         swept_is : swept_by s1 c (take n l) ≡ swept engine settings w (meaning s).flows
@@ -211,7 +210,7 @@ module _ (s index free : List ℕ) (c : ℕ) (idle : Idle) (resolution : TimeRes
             ap (map (finish_or engine IdleTimeout))
             (plan_stands.plan.flows ∙ ap (λ (fs : List (Flow engine)). sort (by_end engine) (those (leaves_by T L w) fs)) (sym flows_are))
 
-        module _ (accepted : d.refusal ≡ 0) where
+        module _ (accepted : stop_number d.refusal ≡ 0) where
           flow_is : flow_under d.name d.«record» ≡ taking engine settings p taker
           flow_is = λ i. record { name = decided.name i; held = decided.record_is accepted i }
 
@@ -288,30 +287,30 @@ module _ (s index free : List ℕ) (c : ℕ) (idle : Idle) (resolution : TimeRes
           by_settings = ap (λ (x : Settings). one_packet engine x (length out) p (meaning s)) settings_are
 
           -- it is not Full and not Spent: by its records' size
-          by_size : d.refusal ≡ 0 → (b : Bool) → leb (sizes engine (finished_by s1 c (take n l) d)) (length out) ≡ b
+          by_size : stop_number d.refusal ≡ 0 → (b : Bool) → leb (sizes engine (finished_by s1 c (take n l) d)) (length out) ≡ b
               → answer ≡ cond b (done deed) (refused Room)
           by_size accepted b e =
               by_settings ∙ answer_taken decided (length out) (meaning s) clock_is flows_are accepted
               ∙ ap (λ (x : Bool). cond x (done deed) (refused Room))
               (ap (λ (fs : List (Finished engine)). leb (sizes engine fs) (length out)) (sym (finished_are accepted)) ∙ e)
 
-          opens_is : not (found_it d.slot) ≡ opens engine taker
+          opens_is : not (is_some d.slot) ≡ opens engine taker
           opens_is = go d.slot refl
             where
-              go : (f : Found) → d.slot ≡ f → not (found_it d.slot) ≡ opens engine taker
-              go (Found.At i) e = ap (λ (f : Found). not (found_it f)) e ∙ sym (ap (opens engine) (takes_old choice i e))
-              go Found.Nothing e = ap (λ (f : Found). not (found_it f)) e ∙ sym (ap (opens engine) (takes_new choice e))
+              go : (f : Option ℕ) → d.slot ≡ f → not (is_some d.slot) ≡ opens engine taker
+              go (Some i) e = ap (λ (f : Option ℕ). not (is_some f)) e ∙ sym (ap (opens engine) (takes_old choice i e))
+              go None e = ap (λ (f : Option ℕ). not (is_some f)) e ∙ sym (ap (opens engine) (takes_new choice e))
 
           beside_is : (fs : List (Flow engine)) → fs ≡ left_flows p staying → beside_found s1 d.slot fs ≡ beside engine taker (left_flows p staying)
           beside_is fs q = ap (beside_found s1 d.slot) q ∙ go d.slot refl
             where
-              go : (f : Found) → d.slot ≡ f → beside_found s1 d.slot (left_flows p staying) ≡ beside engine taker (left_flows p staying)
-              go (Found.At i) e = ap (λ (f : Found). beside_found s1 f (left_flows p staying)) e ∙ sym (beside_old choice i e)
-              go Found.Nothing e =
-                  ap (λ (f : Found). beside_found s1 f (left_flows p staying)) e
+              go : (f : Option ℕ) → d.slot ≡ f → beside_found s1 d.slot (left_flows p staying) ≡ beside engine taker (left_flows p staying)
+              go (Some i) e = ap (λ (f : Option ℕ). beside_found s1 f (left_flows p staying)) e ∙ sym (beside_old choice i e)
+              go None e =
+                  ap (λ (f : Option ℕ). beside_found s1 f (left_flows p staying)) e
                   ∙ sym (ap (λ (x : Taker engine). beside engine x (left_flows p staying)) (takes_new choice e))
 
-          taken_done : (accepted : d.refusal ≡ 0) → sizes engine (finished_by s1 c (take n l) d) ≤ length out
+          taken_done : (accepted : stop_number d.refusal ≡ 0) → sizes engine (finished_by s1 c (take n l) d) ≤ length out
               → Performed c T L w s1 (take n l) d out r s2 out2 index2 free2 → PacketDone p s out c idle resolution r s2 out2 index2 free2
           unfolding patch
           taken_done accepted fits h =
@@ -337,14 +336,14 @@ module _ (s index free : List ℕ) (c : ℕ) (idle : Idle) (resolution : TimeRes
           refused_done why is number e m h =
               let still : T ≡ 0 → (header_in s1).clock.0 ≡ 0 =
               λ z. ap (λ (x : Header). x.clock.0) header_same ∙ call.sound.header.still (sym call.timeout ∙ z) in
-              let same : r.refusal ≡ number = ap (λ (x : Step). x.refusal) h.answer in
+              let same : stop_number r.refusal ≡ number = h.number_is in
               done_then (header_in s1).clock.0 still s2 index2 free2 (slots_of (slots s1 c)) h.stepped out2 r out
               (subst (λ (x : Answer engine). StepTold x s out r s2 out2) (sym is) (
                 same ∙ sym e,
                 (λ z. m (sym same ∙ z)),
-                ap (λ (x : Step). x.opened) h.answer,
-                ap (λ (x : Step). x.records) h.answer,
-                ap (λ (x : Step). x.bytes) h.answer,
+                h.nothing.0,
+                h.nothing.1,
+                h.nothing.2,
                 means_then (header_in s1).clock.0 still s2 index2 free2 (slots_of (slots s1 c)) h.stepped
                     ∙ (λ i. engine_of (header_same i).clock.0 (slots_of (table_same i)))
                     ∙ sym (meaning_view s c call.capacity),
@@ -357,13 +356,13 @@ module _ (s index free : List ℕ) (c : ℕ) (idle : Idle) (resolution : TimeRes
           pub packet_done : CarriedOut c T L w s1 (take n l) d out r s2 out2 index2 free2 → PacketDone p s out c idle resolution r s2 out2 index2 free2
           packet_done carried = by_verdict (eqb verdict 0) refl
             where
-              not_accepted : (verdict ≡ 0 → ⊥) → (b : Bool) → eqb d.refusal 0 ≡ b → PacketDone p s out c idle resolution r s2 out2 index2 free2
+              not_accepted : (verdict ≡ 0 → ⊥) → (b : Bool) → eqb (stop_number d.refusal) 0 ≡ b → PacketDone p s out c idle resolution r s2 out2 index2 free2
               not_accepted m true e =
-                  let z = eqb-true d.refusal 0 e in
+                  let z = eqb-true (stop_number d.refusal) 0 e in
                   let (seven, over) = verdict_seven s1 c (take n l) d (length out) m z in
                   refused_done Room (by_size z false over) verdict (sym seven) m (carried.refused m)
               not_accepted m false e =
-                  let k = eqb-false d.refusal 0 e in
+                  let k = eqb-false (stop_number d.refusal) 0 e in
                   let (why, is, number) = answer_refused decided (length out) (meaning s) clock_is flows_are k in
                   refused_done why (by_settings ∙ is) verdict (number ∙ verdict_refused s1 c (take n l) d (length out) k) m (carried.refused m)
 
@@ -372,4 +371,4 @@ module _ (s index free : List ℕ) (c : ℕ) (idle : Idle) (resolution : TimeRes
                   let z = eqb-true verdict 0 e in
                   let (accepted, fits) = verdict_zero s1 c (take n l) d (length out) z in
                   taken_done accepted fits (carried.taken z)
-              by_verdict false e = not_accepted (eqb-false verdict 0 e) (eqb d.refusal 0) refl
+              by_verdict false e = not_accepted (eqb-false verdict 0 e) (eqb (stop_number d.refusal) 0) refl

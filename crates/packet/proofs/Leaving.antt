@@ -1,15 +1,14 @@
 -- The flows that leave are handed out, and behind them the one that step 1 ends. Assumes nothing.
+use Rattle.std.specs.Prelude.{None, Option, Some}
 use Prim.Native.Nat.{ℕ, ◌+◌, ◌-◌, ◌≤◌, ◌<◌}
 use mathlib.Core.Path.{◌≡◌, refl, sym, ap, ◌∙◌, subst}
 use mathlib.Core.Bool.{Bool, true, false, cond}
 use mathlib.Core.List.{List}
-use mathlib.Core.Option.{Option, none, some}
 use native.Mathlib.Omega.{arith}
 use lib.ListN.{length, take, drop, get_or, length-take, length-drop}
 use borrow.Rule.Slice.PartMut.{put_mid}
 use Rattle.memory.proofs.Laws.{length_patch}
 use Rattle.slots.specs.Table.{slot, slots, is_used}
-use Rattle.slots.specs.declared.Found.{Found}
 use Rattle.slots.proofs.Laws.{get_d_slots}
 use Rattle.table.specs.View.{view}
 use Rattle.flow.specs.declared.time.EndReason.TheVariants.{IdleTimeout, Fin}
@@ -34,13 +33,13 @@ use Rattle.packet.specs.Doing.{flow_found, swept_by, ended_by, PlanStands, Leavi
 use Rattle.packet.proofs.Output.{filled_both}
 
 -- a slot that has a flow in the rules' words is used, and has it
-pub flow_at : (s : List ℕ) (c i : ℕ) (f : Flow engine) → i < c → get_or (slots_of (slots s c)) i none ≡ some f
+pub flow_at : (s : List ℕ) (c i : ℕ) (f : Flow engine) → i < c → get_or (slots_of (slots s c)) i None ≡ Some f
     → (is_used (slot s i) ≡ true) × (flow_in (slot s i) ≡ f)
 unfolding slot_flow
 flow_at s c i f low e =
     go (is_used (slot s i)) refl (sym (slots_of_at (slots s c) i ∙ ap slot_flow (get_d_slots s c i low)) ∙ e)
   where
-    go : (u : Bool) → is_used (slot s i) ≡ u → cond u (some (flow_in (slot s i))) none ≡ some f → (is_used (slot s i) ≡ true) × (flow_in (slot s i) ≡ f)
+    go : (u : Bool) → is_used (slot s i) ≡ u → cond u (Some (flow_in (slot s i))) None ≡ Some f → (is_used (slot s i) ≡ true) × (flow_in (slot s i) ≡ f)
     go true used q = (used, cc)
     go false free q = absurd (let z : ◌≡◌ {A = ℕ} 0 1 = cc in omega arith)
 
@@ -50,7 +49,7 @@ open_slots c T L w s l n index free h =
     all_more (Leaving c (leaves_by T L w) (view c s).table (view c s).tree) (OpenSlot c (view c s).table) (λ i k. record { low = k.low; used = k.used }) (take n l)
     h.plan.slots
 
-module _ (c T L w : ℕ) (s l : List ℕ) (n : ℕ) (found : Found) (index free out : List ℕ) (ask : LeavingAsked c T L w s l n found index free out) where
+module _ (c T L w : ℕ) (s l : List ℕ) (n : ℕ) (found : Option ℕ) (index free out : List ℕ) (ask : LeavingAsked c T L w s l n found index free out) where
   -- the list can be handed out
   pub leaving_hands : HandAsked c IdleTimeout s l n index free out
   leaving_hands = record {
@@ -76,15 +75,15 @@ module _ (c T L w : ℕ) (s l : List ℕ) (n : ℕ) (found : Found) (index free 
         (long_enough s1 c ask.stands.some (ap length handed.tree ∙ ask.stands.plan.names.sound.size)) handed ready
 
     -- the flow that step 1 ends sits where it sat
-    there : (i : ℕ) → found ≡ Found.At i → get_or (slots_of (slots s1 c)) i none ≡ some (flow_in (slot s i))
-    there i e = ap (λ (m : Slots engine). get_or m i none) swept_acted.slots_are ∙ sits_flow s c T L w i (ask.sits i e)
+    there : (i : ℕ) → found ≡ Some i → get_or (slots_of (slots s1 c)) i None ≡ Some (flow_in (slot s i))
+    there i e = ap (λ (m : Slots engine). get_or m i None) swept_acted.slots_are ∙ sits_flow s c T L w i (ask.sits i e)
 
     ended_is : at (slots_of (slots s1 c)) found ≡ flow_found s found
     ended_is = go found refl
       where
-        go : (f : Found) → found ≡ f → at (slots_of (slots s1 c)) f ≡ flow_found s f
-        go (Found.At i) e = there i e
-        go Found.Nothing e = refl
+        go : (f : Option ℕ) → found ≡ f → at (slots_of (slots s1 c)) f ≡ flow_found s f
+        go (Some i) e = there i e
+        go None e = refl
 
     out_long : length out1 ≡ length out
     out_long =

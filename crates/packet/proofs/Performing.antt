@@ -1,22 +1,19 @@
 -- A packet is taken: the flows that leave, the flow that takes it, and the clock. Assumes nothing.
+use Rattle.std.specs.Prelude.{None, Option, Some, is_some}
 use Prim.Native.Nat.{ℕ, ◌+◌, ◌-◌, ◌^◌, ◌≤◌, ◌<◌}
 use mathlib.Core.Path.{◌≡◌, refl, sym, ap, ◌∙◌, subst}
 use mathlib.Core.Bool.{Bool, not}
 use mathlib.Core.List.{List, [], ◌∷◌, ◌++◌, append_assoc}
-use mathlib.Core.Option.{none, some}
 use native.Mathlib.Omega.{arith}
 use lib.ListN.{length, take, drop, get_or, length-take, length-drop, length-append, length-map}
 use borrow.Rule.Slice.PartMut.{put_mid}
 use Rattle.memory.specs.Bytes.{part}
 use Rattle.memory.proofs.Laws.{length_patch}
 use Rattle.slots.specs.Table.{slot, slots}
-use Rattle.slots.specs.declared.Found.{Found}
 use Rattle.slots.proofs.Laws.{length_slots}
 use Rattle.table.specs.View.{view, with_header}
 use Rattle.table.specs.Header.{header_of, with_clock}
 use Rattle.flow.specs.declared.time.EndReason.TheVariants.{IdleTimeout}
-use Rattle.flow.specs.declared.time.OptEndReason.{OptEndReason}
-use Rattle.flow.specs.declared.time.OptEndReason.TheVariants.{Absent, Present}
 use Rattle.key.specs.Key.{reversed_key}
 use Rattle.key.specs.declared.key.FlowKey.{FlowKey}
 use Rattle.rules.specs.Totals.{total, total_sort}
@@ -26,11 +23,10 @@ use Rattle.rules.specs.Slots.{Slots, occupied, meaning}
 use Rattle.flow.specs.declared.record.Direction.TheVariants.{Forward}
 use Rattle.state.specs.Slot.{flow_in, slot_flow}
 use Rattle.state.specs.State.{slots_of}
-use Rattle.state.specs.SlotTest.{found_it}
 use Rattle.state.specs.Free.{free_count}
 use Rattle.state.specs.Change.{last_free, open_and_free, absent_fresh, distinct_flows}
 use Rattle.plan.proofs.Flows.{end_told}
-use Rattle.hand.specs.Acting.{Acted, reason_of}
+use Rattle.hand.specs.Acting.{Acted}
 use Rattle.hand.specs.Freed.{sizes_written}
 use Rattle.decide.specs.Decide.{staying_slots, left_flows, Chosen}
 use Rattle.decide.specs.Settle.{freed_by}
@@ -48,6 +44,7 @@ use Rattle.packet.proofs.Output.{filled_both}
 use Rattle.packet.proofs.Sizes.{finished_sizes}
 use Rattle.packet.proofs.Leaving.{flow_at}
 use Rattle.packet.proofs.Taking.{old_name, old_grows, new_name, new_room, taken_flow, taken_unended}
+use Rattle.flow.specs.declared.time.EndReason.{EndReason}
 
 -- ## Steps 3 and 4, and the clock
 
@@ -87,22 +84,22 @@ step_since c T w s s1 s2 index1 free1 index free l1 l acted step = record {
 
 -- ## How many records there are
 
-ended_many : (s : List ℕ) (f : Found) → length (ended_by s f) ≡ freed_by f
-ended_many s (Found.At i) = refl
-ended_many s Found.Nothing = refl
+ended_many : (s : List ℕ) (f : Option ℕ) → length (ended_by s f) ≡ freed_by f
+ended_many s (Some i) = refl
+ended_many s None = refl
 
-ending_many : (r : OptEndReason) (f : Flow engine) → length (ended_for engine (reason_of r) f) ≡ count_of r
-ending_many Absent f = refl
-ending_many (Present e) f = refl
+ending_many : (r : Option EndReason) (f : Flow engine) → length (ended_for engine r f) ≡ count_of r
+ending_many None f = refl
+ending_many (Some e) f = refl
 
 -- each ends one flow at most
-pub few_freed : (f : Found) → freed_by f ≤ 1
-few_freed (Found.At i) = omega arith
-few_freed Found.Nothing = omega arith
+pub few_freed : (f : Option ℕ) → freed_by f ≤ 1
+few_freed (Some i) = omega arith
+few_freed None = omega arith
 
-pub few_ending : (r : OptEndReason) → count_of r ≤ 1
-few_ending Absent = omega arith
-few_ending (Present e) = omega arith
+pub few_ending : (r : Option EndReason) → count_of r ≤ 1
+few_ending None = omega arith
+few_ending (Some e) = omega arith
 
 -- ## How many flows a table means
 
@@ -120,13 +117,13 @@ slots_many s c = length-map (slots s c) slot_flow ∙ length_slots s c 0
 
 -- ## The taker by its slot
 
-abbrev taker_found : List ℕ → Found → Taker engine
-taker_found s (Found.At i) = old Forward (flow_in (slot s i))
-taker_found s Found.Nothing = new
+abbrev taker_found : List ℕ → Option ℕ → Taker engine
+taker_found s (Some i) = old Forward (flow_in (slot s i))
+taker_found s None = new
 
-beside_found_lem : (s : List ℕ) (f : Found) (fs : List (Flow engine)) → beside engine (taker_found s f) fs ≡ beside_found s f fs
-beside_found_lem s (Found.At i) fs = refl
-beside_found_lem s Found.Nothing fs = refl
+beside_found_lem : (s : List ℕ) (f : Option ℕ) (fs : List (Flow engine)) → beside engine (taker_found s f) fs ≡ beside_found s f fs
+beside_found_lem s (Some i) fs = refl
+beside_found_lem s None fs = refl
 
 -- ## The packet is taken
 
@@ -169,17 +166,17 @@ module _ (c T L w : ℕ) (s l : List ℕ) (n : ℕ) (d : Decision) (bytes index 
     perform_behind = omega (arith, all_fits, before_long, out_long, left.filled.bytes)
 
     -- the flow that takes the packet sits where it sat
-    there : (i : ℕ) → d.slot ≡ Found.At i → get_or (slots_of (slots s1 c)) i none ≡ some (flow_in (slot s i))
-    there i e = ap (λ (m : Slots engine). get_or m i none) left.acted.slots_are ∙ taker_sits choice i e
+    there : (i : ℕ) → d.slot ≡ Some i → get_or (slots_of (slots s1 c)) i None ≡ Some (flow_in (slot s i))
+    there i e = ap (λ (m : Slots engine). get_or m i None) left.acted.slots_are ∙ taker_sits choice i e
 
-    same_flow : (i : ℕ) (e : d.slot ≡ Found.At i) → flow_in (slot s1 i) ≡ flow_in (slot s i)
+    same_flow : (i : ℕ) (e : d.slot ≡ Some i) → flow_in (slot s1 i) ≡ flow_in (slot s i)
     same_flow i e = (flow_at s1 c i (flow_in (slot s i)) (choice.slot_sits i e).low (there i e)).1
 
     -- the flows are those that step 1 leaves
     flows_left : meaning engine (slots_of (slots s1 c)) ≡ left_flows h.packet (staying_slots T L w (slots s c))
     flows_left = ap (meaning engine) left.acted.slots_are ∙ left_meaning choice stands.ready.flows
 
-    old_then : (i : ℕ) → d.slot ≡ Found.At i → OldFlow c d.name d.«record» s1 i
+    old_then : (i : ℕ) → d.slot ≡ Some i → OldFlow c d.name d.«record» s1 i
     unfolding flow_in
     old_then i e = record {
       sits = record {
@@ -199,15 +196,15 @@ module _ (c T L w : ℕ) (s l : List ℕ) (n : ℕ) (d : Decision) (bytes index 
           );
     }
 
-    own_key : d.slot ≡ Found.Nothing → d.name ≡ h.packet.key
+    own_key : d.slot ≡ None → d.name ≡ h.packet.key
     own_key e = new_name c T L w s bytes d h stands.ready.flows ask.accepted e
 
-    new_alone : d.slot ≡ Found.Nothing → under engine (key_bytes d.name) (meaning engine (slots_of (slots s1 c))) ≡ none
+    new_alone : d.slot ≡ None → under engine (key_bytes d.name) (meaning engine (slots_of (slots s1 c))) ≡ None
     new_alone e =
         ap (λ (k : FlowKey). under engine (key_bytes k) (meaning engine (slots_of (slots s1 c)))) (own_key e)
         ∙ ap (under engine (key_bytes h.packet.key)) flows_left ∙ new_own choice e
 
-    new_then : d.slot ≡ Found.Nothing → NewFlow c d.name bytes s1
+    new_then : d.slot ≡ None → NewFlow c d.name bytes s1
     new_then e = record {
       alone = new_alone e;
       unturned = λ two.
@@ -218,7 +215,7 @@ module _ (c T L w : ℕ) (s l : List ℕ) (n : ℕ) (d : Decision) (bytes index 
     }
 
     -- a slot is free for a flow that opens
-    free_then : d.slot ≡ Found.Nothing → 0 < free_count free1
+    free_then : d.slot ≡ None → 0 < free_count free1
     free_then e =
         omega (
           arith,
@@ -260,19 +257,19 @@ module _ (c T L w : ℕ) (s l : List ℕ) (n : ℕ) (d : Decision) (bytes index 
       abbrev l1 : Slots engine
       l1 = slots_of (slots s1 c)
 
-      old_taker : (i : ℕ) → d.slot ≡ Found.At i → OldTaker l1 (meaning engine l1) (taker_found s d.slot) flow i
+      old_taker : (i : ℕ) → d.slot ≡ Some i → OldTaker l1 (meaning engine l1) (taker_found s d.slot) flow i
       unfolding flow_in
       old_taker i e = record {
         was = flow_in (slot s i);
         low = omega (arith, (choice.slot_sits i e).low, slots_many s1 c);
         here = there i e;
         name = sym (old_name c T L w s bytes d h stands.ready.flows ask.accepted i e);
-        others = ap (λ (f : Found). beside engine (taker_found s f) (meaning engine l1)) e;
+        others = ap (λ (f : Option ℕ). beside engine (taker_found s f) (meaning engine l1)) e;
       }
 
-      new_taker : d.slot ≡ Found.Nothing → NewTaker l1 (meaning engine l1) (taker_found s d.slot) flow d.reason (last_free free1)
+      new_taker : d.slot ≡ None → NewTaker l1 (meaning engine l1) (taker_found s d.slot) flow d.reason (last_free free1)
       new_taker e = record {
-        others = ap (λ (f : Found). beside engine (taker_found s f) (meaning engine l1)) e;
+        others = ap (λ (f : Option ℕ). beside engine (taker_found s f) (meaning engine l1)) e;
         low = λ k. omega (arith, last_free_low s1 c index1 free1 left.acted.busy.ready (free_then e), slots_many s1 c);
         empty = λ k. last_free_none s1 c index1 free1 left.acted.busy.ready (free_then e);
         alone = λ k.
@@ -281,11 +278,11 @@ module _ (c T L w : ℕ) (s l : List ℕ) (n : ℕ) (d : Decision) (bytes index 
       }
 
       flows_then : meaning engine (settled_slots d.slot d.reason (last_free free1) d.name d.«record» l1)
-          ≡ keeping engine (reason_of d.reason) flow (beside_found s d.slot (meaning engine (left_slots c T L w s d.ended)))
+          ≡ keeping engine d.reason flow (beside_found s d.slot (meaning engine (left_slots c T L w s d.ended)))
       flows_then =
           settled_means l1 (meaning engine l1) refl (distinct_flows s1 c left.acted.busy.ready.flows) (taker_found s d.slot) flow (last_free free1) d.slot
           d.reason old_taker new_taker
-          ∙ ap (keeping engine (reason_of d.reason) flow)
+          ∙ ap (keeping engine d.reason flow)
           (beside_found_lem s d.slot (meaning engine l1) ∙ ap (λ (m : Slots engine). beside_found s d.slot (meaning engine m)) left.acted.slots_are)
 
       bytes_are : before ++ written (taken_by d) ≡ written (finished_by s c (take n l) d)
@@ -294,8 +291,8 @@ module _ (c T L w : ℕ) (s l : List ℕ) (n : ℕ) (d : Decision) (bytes index 
           ∙ ap (λ (x : List ℕ). written (swept_by s c (take n l)) ++ x) (sym (written_both (ended_by s d.ended) (taken_by d)))
           ∙ sym (written_both (swept_by s c (take n l)) (ended_by s d.ended ++ taken_by d))
 
-      pub performed : (found : Bool) (x y : ℕ) → found ≡ found_it d.slot → x ≡ freed_by d.ended → y ≡ count_of d.reason
-          → Performed c T L w s (take n l) d out (record { refusal = 0; opened = not found; records = n + x + y; bytes = a + b }) s2
+      pub performed : (found : Bool) (x y : ℕ) → found ≡ is_some d.slot → x ≡ freed_by d.ended → y ≡ count_of d.reason
+          → Performed c T L w s (take n l) d out (record { refusal = None; opened = not found; records = n + x + y; bytes = a + b }) s2
           (put_mid a (length out1 - a) out1 t) index2 free2
       performed found x y e1 e2 e3 = record {
         accepted = refl;

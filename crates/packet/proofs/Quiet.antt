@@ -1,4 +1,5 @@
 -- A packet that is counted on an open flow where nothing leaves: it is what the rules tell of it. Assumes nothing.
+use Rattle.std.specs.Prelude.{None, Some}
 use Prim.Native.Nat.{ℕ, ◌+◌, ◌-◌, ◌^◌, ◌≤◌, ◌<◌}
 use mathlib.Core.Path.{◌≡◌, refl, sym, ap, subst}
 use mathlib.Core.Bool.{Bool, true, false, cond}
@@ -9,7 +10,6 @@ use borrow.Rule.Slice.PartMut.{put_same}
 use lib.ListN.{length, take, drop}
 use Rattle.memory.specs.Bytes.{patch, bytes_of}
 use Rattle.slots.specs.Table.{slot, slots}
-use Rattle.slots.specs.declared.Found.{Found}
 use Rattle.table.specs.View.{view, slot_of, with_slot, with_header}
 use Rattle.table.specs.Header.{with_clock}
 use Rattle.words.specs.Words.{words_of}
@@ -17,7 +17,6 @@ use Rattle.flow.specs.Counting.{counted_of, has_room}
 use Rattle.flow.specs.declared.time.Idle.{Idle}
 use Rattle.flow.specs.declared.time.TimeResolution.{TimeResolution}
 use Rattle.flow.specs.declared.time.EndReason.TheVariants.{IdleTimeout}
-use Rattle.flow.specs.declared.time.OptEndReason.TheVariants.{Absent}
 use Rattle.flow.specs.declared.record.Direction.{Direction}
 use Rattle.flow.specs.declared.record.FlowRecord.{FlowRecord}
 use Rattle.wire.specs.PacketTheorems.{PacketInRange}
@@ -51,7 +50,7 @@ use Rattle.packet.proofs.Done.{packet_plans, plan_stands, room_is, packet_carrie
 module _ (s index free : List ℕ) (c : ℕ) (idle : Idle) (resolution : TimeResolution) (call : InCall s index free c idle resolution)
     (p : Packet) (in_range : PacketInRange p) (w : ℕ) (clock : w ≡ clock_then s idle.timeout.0 p)
     (quiet : NothingDue c idle.timeout.0 idle.lateness.0 w (view c s).tree) (i : ℕ) (way : Direction)
-    (choice : Chosen s c idle.timeout.0 idle.lateness.0 w p Found.Nothing (Found.At i) way)
+    (choice : Chosen s c idle.timeout.0 idle.lateness.0 w p None (Some i) way)
     (room : has_room (record_in (slot s i)) p.facts ≡ true) (no_rst : engine.rst p ≡ false)
     (unclosed : both_fins (record_in (slot s i)) ≡ false) (l : List ℕ) (long : 4096 ≤ length l) where
   abbrev T : ℕ
@@ -68,7 +67,7 @@ module _ (s index free : List ℕ) (c : ℕ) (idle : Idle) (resolution : TimeRes
   after = counted_of (record_in (slot s i)) way p.facts
 
   abbrev d : Decision
-  d = record { refusal = 0; ended = Found.Nothing; slot = Found.At i; name = name_by p.key way; «record» = after; reason = Absent }
+  d = record { refusal = None; ended = None; slot = Some i; name = name_by p.key way; «record» = after; reason = None }
 
   -- ## Nothing leaves
 
@@ -83,7 +82,7 @@ module _ (s index free : List ℕ) (c : ℕ) (idle : Idle) (resolution : TimeRes
 
   -- ## It is decided
 
-  settled : Settled s (free_count free + 0) resolution p (record { ended = Found.Nothing; slot = Found.At i; direction = way }) d
+  settled : Settled s (free_count free + 0) resolution p (record { ended = None; slot = Some i; direction = way }) d
   settled = record {
     ended = refl;
     slot = refl;
@@ -96,7 +95,7 @@ module _ (s index free : List ℕ) (c : ℕ) (idle : Idle) (resolution : TimeRes
   taken : Decided (record { T = T; L = L; resolution = resolution; capacity = c }) s w p d
   taken =
       decided (record { T = T; L = L; resolution = resolution; capacity = c }) s w p (free_count free + 0)
-      (record { ended = Found.Nothing; slot = Found.At i; direction = way }) d choice stands.ready.flows in_range
+      (record { ended = None; slot = Some i; direction = way }) d choice stands.ready.flows in_range
       (room_is s index free c idle resolution call (time_of p) s l plan made long) settled
 
   carry : CarryAsked c T L w s l 0 d bytes index free
@@ -108,7 +107,7 @@ module _ (s index free : List ℕ) (c : ℕ) (idle : Idle) (resolution : TimeRes
     ask : PerformAsked c T L w s l 0 d bytes index free out
     ask = record { carry = carry; accepted = refl; fits = omega arith }
 
-    left : LeftHanded c T L w s s index free (take 0 l) Found.Nothing out out 0
+    left : LeftHanded c T L w s s index free (take 0 l) None out out 0
     unfolding staying_slots patch
     left = record {
       acted =
@@ -117,27 +116,27 @@ module _ (s index free : List ℕ) (c : ℕ) (idle : Idle) (resolution : TimeRes
       filled = record { output = refl; bytes = refl };
     }
 
-    settles : SettleAsked c T (Found.At i) (name_by p.key way) bytes after Absent s index free (take (length out - 0) (drop 0 out))
+    settles : SettleAsked c T (Some i) (name_by p.key way) bytes after None s index free (take (length out - 0) (drop 0 out))
     settles = perform_settles c T L w s l 0 d bytes index free out ask s index free out 0 left
 
-    keeps : KeepAsked c T (Found.At i) (name_by p.key way) bytes after s index free
+    keeps : KeepAsked c T (Some i) (name_by p.key way) bytes after s index free
     keeps =
-        keep_asked c T (Found.At i) (name_by p.key way) bytes after Absent s index free (take (length out - 0) (drop 0 out)) settles refl
+        keep_asked c T (Some i) (name_by p.key way) bytes after None s index free (take (length out - 0) (drop 0 out)) settles refl
 
     module _ (s1 s2 : List ℕ) (small : w < 2 ^ 64)
         (counted : view c s1 ≡ with_slot i (patch (slot_of (view c s).table i) 80 (bytes_of (words_of after))) (view c s))
         (clocked : view c s2 ≡ with_header (with_clock w (view c s1).header) (view c s1)) where
       -- the slots with the record in its place
       abbrev now : Slots engine
-      now = kept_slots (Found.At i) (last_free free) (flow_under (name_by p.key way) after) (slots_of (slots s c))
+      now = kept_slots (Some i) (last_free free) (flow_under (name_by p.key way) after) (slots_of (slots s c))
 
       kept : Acted c T s s1 index free now
       kept =
-          let seated = seat_found (Found.At i) c bytes s index free i refl in
-          keep_acted c T (Found.At i) (name_by p.key way) bytes after s index free keeps s index free i seated (words_of after) s1 refl
+          let seated = seat_found (Some i) c bytes s index free i refl in
+          keep_acted c T (Some i) (name_by p.key way) bytes after s index free keeps s index free i seated (words_of after) s1 refl
           counted s1
-          (entry_kept c T i (Found.At i) s1
-          (entry_asked c T (Found.At i) (name_by p.key way) bytes after s index free keeps s index free i seated (words_of after) s1 refl
+          (entry_kept c T i (Some i) s1
+          (entry_asked c T (Some i) (name_by p.key way) bytes after s index free keeps s index free i seated (words_of after) s1 refl
           counted) i refl)
 
       stepped : Stepped c T w s s2 index free now

@@ -1,21 +1,20 @@
 -- The flow that takes a packet that is not refused: it is sound, it is not ended, and it ends no earlier than it did. Assumes nothing.
+use Rattle.forms.specs.Refusals.{stop_number}
+use Rattle.std.specs.Prelude.{None, Option, Some}
 use Prim.Native.Nat.{ℕ, ◌≤◌, ◌<◌}
 use mathlib.Core.Path.{◌≡◌, refl, sym, ap, ◌∙◌, subst}
 use mathlib.Core.Bool.{Bool, true, false, cond}
 use mathlib.Core.List.{List}
-use mathlib.Core.Option.{Option, none, some}
 use native.Mathlib.Omega.{arith}
 use borrow.Author.Tests.{leb-false}
 use lib.ListN.{length}
 use Rattle.slots.specs.Table.{slot, slots}
-use Rattle.slots.specs.declared.Found.{Found}
 use Rattle.table.specs.Due.{end_of}
 use Rattle.words.specs.Kept.{open_record}
 use Rattle.key.specs.Key.{reversed_key}
 use Rattle.key.specs.declared.key.FlowKey.{FlowKey}
 use Rattle.flow.specs.Counting.{opened_of, counted_of}
 use Rattle.flow.specs.CountingLaws.{counted_end, counting_keeps}
-use Rattle.flow.specs.declared.time.OptEndReason.TheVariants.{Absent}
 use Rattle.flow.specs.declared.record.Direction.{Direction}
 use Rattle.flow.specs.declared.record.Direction.TheVariants.{Forward, Reverse}
 use Rattle.flow.specs.declared.record.FlowRecord.{FlowRecord}
@@ -42,9 +41,9 @@ reverse_two_way p fs f e =
     go (under engine (key_bytes p.key) fs) (is_association p.key) refl (under engine (key_bytes (reversed_key p.key)) fs) e
   where
     go : (o : Option (Flow engine)) (a : Bool) → is_association p.key ≡ a → (g : Option (Flow engine)) → chosen engine o a g ≡ old Reverse f → is_association p.key ≡ false
-    go (some x) a q g h = absurd (let n : ◌≡◌ {A = ℕ} 0 1 = cc in omega arith)
-    go none true q g h = absurd (let n : ◌≡◌ {A = ℕ} 0 1 = cc in omega arith)
-    go none false q g h = q
+    go (Some x) a q g h = absurd (let n : ◌≡◌ {A = ℕ} 0 1 = cc in omega arith)
+    go None true q g h = absurd (let n : ◌≡◌ {A = ℕ} 0 1 = cc in omega arith)
+    go None false q g h = q
 
 -- neither Full nor Spent
 both_false : (a b : Bool) → ◌≡◌ {A = ℕ} (cond a 5 (cond b 6 0)) 0 → (a ≡ false) × (b ≡ false)
@@ -52,7 +51,7 @@ both_false true b e = absurd (omega arith)
 both_false false true e = absurd (omega arith)
 both_false false false e = (refl, refl)
 
-module _ (c T L w : ℕ) (s bytes : List ℕ) (d : Decision) (h : DecidedFor c T L w s bytes d) (flows : SoundFlows s c) (accepted : d.refusal ≡ 0) where
+module _ (c T L w : ℕ) (s bytes : List ℕ) (d : Decision) (h : DecidedFor c T L w s bytes d) (flows : SoundFlows s c) (accepted : stop_number d.refusal ≡ 0) where
   abbrev settings : Settings
   settings = record { T = T; L = L; resolution = h.resolution; capacity = c }
 
@@ -76,7 +75,7 @@ module _ (c T L w : ℕ) (s bytes : List ℕ) (d : Decision) (h : DecidedFor c T
 
   -- ## A flow that is there
 
-  module _ (i : ℕ) (e : d.slot ≡ Found.At i) where
+  module _ (i : ℕ) (e : d.slot ≡ Some i) where
     old_sound : SoundFlow (key_in (slot s i)) (record_in (slot s i))
     old_sound = slot_sound (slot s i) (flows.slots i (choice.slot_sits i e).low (choice.slot_sits i e).used)
 
@@ -109,7 +108,7 @@ module _ (c T L w : ℕ) (s bytes : List ℕ) (d : Decision) (h : DecidedFor c T
         (subst (SoundFlow (key_in (slot s i))) (sym old_record)
         (engine_held.counts way p (key_in (slot s i)) (record_in (slot s i)) h.in_range old_sound old_way old_spent))
 
-    old_unended : d.«record».time.end_reason ≡ Absent
+    old_unended : d.«record».time.end_reason ≡ None
     unfolding record_in
     old_unended =
         ap (λ (r : FlowRecord). r.time.end_reason) old_record ∙ (counting_keeps (record_in (slot s i)) way p.facts).reason
@@ -128,7 +127,7 @@ module _ (c T L w : ℕ) (s bytes : List ℕ) (d : Decision) (h : DecidedFor c T
 
   -- ## A flow that opens
 
-  module _ (e : d.slot ≡ Found.Nothing) where
+  module _ (e : d.slot ≡ None) where
     pub new_name : d.name ≡ p.key
     new_name = h.decided.name ∙ ap (λ (x : Taker engine). (taking engine settings p x).name) (takes_new choice e)
 
@@ -140,7 +139,7 @@ module _ (c T L w : ℕ) (s bytes : List ℕ) (d : Decision) (h : DecidedFor c T
         subst (λ (k : FlowKey). SoundFlow k d.«record») (sym new_name)
         (subst (SoundFlow p.key) (sym new_record) (engine_held.begins h.resolution p h.in_range))
 
-    new_unended : d.«record».time.end_reason ≡ Absent
+    new_unended : d.«record».time.end_reason ≡ None
     unfolding opened_of
     new_unended =
         ap (λ (r : FlowRecord). r.time.end_reason) new_record
@@ -157,13 +156,13 @@ module _ (c T L w : ℕ) (s bytes : List ℕ) (d : Decision) (h : DecidedFor c T
   pub taken_flow : SoundFlow d.name d.«record»
   taken_flow = go d.slot refl
     where
-      go : (f : Found) → d.slot ≡ f → SoundFlow d.name d.«record»
-      go (Found.At i) e = old_flow i e
-      go Found.Nothing e = new_flow e
+      go : (f : Option ℕ) → d.slot ≡ f → SoundFlow d.name d.«record»
+      go (Some i) e = old_flow i e
+      go None e = new_flow e
 
-  pub taken_unended : d.«record».time.end_reason ≡ Absent
+  pub taken_unended : d.«record».time.end_reason ≡ None
   taken_unended = go d.slot refl
     where
-      go : (f : Found) → d.slot ≡ f → d.«record».time.end_reason ≡ Absent
-      go (Found.At i) e = old_unended i e
-      go Found.Nothing e = new_unended e
+      go : (f : Option ℕ) → d.slot ≡ f → d.«record».time.end_reason ≡ None
+      go (Some i) e = old_unended i e
+      go None e = new_unended e

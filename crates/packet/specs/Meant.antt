@@ -1,13 +1,9 @@
 -- What the slots mean once a packet's flows have been changed: what the plain rules' steps 3 and 4 leave. Assumes nothing.
-use Rattle.std.specs.Prelude.{ℕ, ◌<◌, ◌≡◌, refl, length, get_or}
+use Rattle.std.specs.Prelude.{ℕ, ◌<◌, ◌≡◌, refl, length, get_or, None, Option, Some}
 use Rattle.std.proofs.Math.Path.{sym, ap}
 use Rattle.std.proofs.Common.{◌∙◌}
 use Rattle.std.proofs.Math.Bool.{not}
 use mathlib.Core.List.{List}
-use Rattle.std.proofs.Math.Option.{none, some}
-use Rattle.slots.specs.declared.Found.{Found}
-use Rattle.flow.specs.declared.time.OptEndReason.{OptEndReason}
-use Rattle.flow.specs.declared.time.OptEndReason.TheVariants.{Absent, Present}
 use Rattle.wire.specs.declared.packet.Packet.{Packet}
 use Rattle.rules.specs.Order.{insert}
 use Rattle.rules.specs.Laws.{Fresh, Distinct}
@@ -20,7 +16,7 @@ use Rattle.plan.specs.Plan.{leaves_by}
 use Rattle.act.specs.Settle.{settled_slots}
 use Rattle.decide.specs.Decide.{staying_slots, ended_flow, left_flows, taker_on}
 use Rattle.state.specs.State.{slots_of}
-use Rattle.hand.specs.Acting.{reason_of}
+use Rattle.flow.specs.declared.time.EndReason.{EndReason}
 
 -- ## Steps 3 and 4 on slots
 
@@ -28,32 +24,32 @@ use Rattle.hand.specs.Acting.{reason_of}
 pub record OldTaker (l : Slots engine) (fs : List (Flow engine)) (t : Taker engine) (flow : Flow engine) (i : ℕ) : Type 0 where
   pub was : Flow engine
   pub low : i < length l
-  pub here : get_or l i none ≡ some was
+  pub here : get_or l i None ≡ Some was
   pub name : was.name ≡ flow.name
   pub others : beside engine t fs ≡ without engine (by_key engine was) fs
 
 -- no flow takes it, and a slot is free for a new one
-pub record NewTaker (l : Slots engine) (fs : List (Flow engine)) (t : Taker engine) (flow : Flow engine) (reason : OptEndReason) (last : ℕ) : Type 0 where
+pub record NewTaker (l : Slots engine) (fs : List (Flow engine)) (t : Taker engine) (flow : Flow engine) (reason : Option EndReason) (last : ℕ) : Type 0 where
   pub others : beside engine t fs ≡ fs
-  pub low : reason ≡ Absent → last < length l
-  pub empty : reason ≡ Absent → get_or l last none ≡ none
-  pub alone : reason ≡ Absent → Fresh (by_key engine) (by_key engine flow) (occupied engine l)
+  pub low : reason ≡ None → last < length l
+  pub empty : reason ≡ None → get_or l last None ≡ None
+  pub alone : reason ≡ None → Fresh (by_key engine) (by_key engine flow) (occupied engine l)
 
 module _ (l : Slots engine) (fs : List (Flow engine)) (means : meaning engine l ≡ fs) (apart-keys : Distinct (by_key engine) (occupied engine l))
     (t : Taker engine) (flow : Flow engine) (last : ℕ) where
-  pub settled_means : (found : Found) (reason : OptEndReason) → ((i : ℕ) → found ≡ Found.At i → OldTaker l fs t flow i) → (found ≡ Found.Nothing → NewTaker l fs t flow reason last)
-      → meaning engine (settled_slots found reason last flow.name flow.held l) ≡ keeping engine (reason_of reason) flow (beside engine t fs)
-  settled_means (Found.At i) Absent old new =
+  pub settled_means : (found : Option ℕ) (reason : Option EndReason) → ((i : ℕ) → found ≡ Some i → OldTaker l fs t flow i) → (found ≡ None → NewTaker l fs t flow reason last)
+      → meaning engine (settled_slots found reason last flow.name flow.held l) ≡ keeping engine reason flow (beside engine t fs)
+  settled_means (Some i) None old new =
       let o = old i refl in
       changed engine l i o.was flow o.low o.here o.name apart-keys
       ∙ ap (λ (x : List (Flow engine)). insert (by_key engine) flow (without engine (by_key engine o.was) x)) means ∙ ap (insert (by_key engine) flow) (sym o.others)
-  settled_means (Found.At i) (Present r) old new =
+  settled_means (Some i) (Some r) old new =
       let o = old i refl in
       freed engine l i o.was o.here apart-keys ∙ ap (without engine (by_key engine o.was)) means ∙ sym o.others
-  settled_means Found.Nothing Absent old new =
+  settled_means None None old new =
       let n = new refl in
       entered engine l last flow (n.low refl) (n.empty refl) (n.alone refl) ∙ ap (insert (by_key engine) flow) (means ∙ sym n.others)
-  settled_means Found.Nothing (Present r) old new = means ∙ sym (new refl).others
+  settled_means None (Some r) old new = means ∙ sym (new refl).others
 
 -- ## The packet's answer, on slots
 

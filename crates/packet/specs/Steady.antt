@@ -1,6 +1,5 @@
 -- A packet of a flow that is open and stays open, where nothing leaves. Assumes nothing.
-use Rattle.std.specs.Prelude.{ℕ, max, ◌≡◌, Bool, true, false, cond, List, eqb}
-use Rattle.std.proofs.Math.Option.{none}
+use Rattle.std.specs.Prelude.{ℕ, max, ◌≡◌, Bool, true, false, cond, List, eqb, Some, None}
 use Rattle.memory.specs.Decides.{Decides}
 use Rattle.slots.specs.Table.{slots}
 use Rattle.table.specs.View.{view}
@@ -13,7 +12,6 @@ use Rattle.wire.specs.PacketTheorems.{PacketInRange}
 use Rattle.wire.specs.declared.packet.Packet.{Packet}
 use Rattle.plain.specs.Plain.{plain_at, key_read}
 use Rattle.plain.specs.declared.Plain.{Plain}
-use Rattle.plain.specs.declared.PlainAt.{PlainAt}
 use Rattle.rules.specs.Rules.{Flow, old, ending}
 use Rattle.rules.specs.Engine.{engine, time_of}
 use Rattle.state.specs.State.{header_in}
@@ -33,21 +31,21 @@ pub record SteadyAsked (s index : List ℕ) (c : ℕ) (idle : Idle) (facts : Pac
   pub resolution : TimeResolution
   pub call : InCall s index free c idle resolution
   pub in_range : PacketInRange (record { facts = facts; key = key_read batch from })
-  pub plain : PlainAt.Key key ≡ plain_at batch from
+  pub plain : Some key ≡ plain_at batch from
 
 -- the packet is counted on an open flow, and nothing else happens
 pub record Steady (s : List ℕ) (c T L w : ℕ) (p : Packet) : Type 0 where
   pub quiet : NothingDue c T L w (view c s).tree
-  pub unended : ended_flow p (staying_slots T L w (slots s c)) ≡ none
+  pub unended : ended_flow p (staying_slots T L w (slots s c)) ≡ None
   pub direction : Direction
   pub flow : Flow engine
   pub taker : taker_on p (staying_slots T L w (slots s c)) ≡ old direction flow
   pub room : has_room flow.held p.facts ≡ true
-  pub stays_open : ending engine none p (old direction flow) ≡ none
+  pub stays_open : ending engine None p (old direction flow) ≡ None
 
 -- nothing was refused, opened or finished
 abbrev pub quiet_step : Step
-quiet_step = record { refusal = 0; opened = false; records = 0; bytes = 0 }
+quiet_step = record { refusal = None; opened = false; records = 0; bytes = 0 }
 
 -- counted where its flow's record stands, or left to the general way
 pub record SteadyTaken (p : Packet) (s index : List ℕ) (c : ℕ) (idle : Idle) (r : Bool) (s' : List ℕ) : Type 0 where

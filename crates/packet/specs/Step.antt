@@ -1,4 +1,5 @@
 -- What one packet of a batch asks and promises. Assumes nothing.
+use Rattle.forms.specs.Refusals.{stop_number}
 use Rattle.std.specs.Prelude.{ℕ, ◌≤◌, ◌≡◌, false, List, ◌++◌, length, drop}
 use Rattle.table.specs.View.{view}
 use Rattle.flow.specs.declared.time.Idle.{Idle}
@@ -30,9 +31,9 @@ pub record PacketAsked (s index free leaving : List ℕ) (c : ℕ) (idle : Idle)
 -- the packet was refused and nothing was done, or it did what the rules tell
 abbrev pub StepTold : Answer engine → List ℕ → List ℕ → Step → List ℕ → List ℕ → Type 0
 StepTold (refused r) before room step after out =
-    (step.refusal ≡ number_of r) × (step.refusal ≡ 0 → ⊥) × (step.opened ≡ false) × (step.records ≡ 0) × (step.bytes ≡ 0) × (meaning after ≡ meaning before) × (out ≡ room)
+    ((stop_number step.refusal) ≡ number_of r) × ((stop_number step.refusal) ≡ 0 → ⊥) × (step.opened ≡ false) × (step.records ≡ 0) × (step.bytes ≡ 0) × (meaning after ≡ meaning before) × (out ≡ room)
 StepTold (done d) before room step after out =
-    (step.refusal ≡ 0) × (step.opened ≡ d.opening) × (step.records ≡ length d.finished) × (step.bytes ≡ length (written d.finished))
+    ((stop_number step.refusal) ≡ 0) × (step.opened ≡ d.opening) × (step.records ≡ length d.finished) × (step.bytes ≡ length (written d.finished))
     × (meaning after ≡ d.engine) × (out ≡ written d.finished ++ drop step.bytes room)
 
 -- the state is sound still, with the same settings, and the call's own memory is ready

@@ -1,5 +1,5 @@
-// One packet of a batch: what it will do is decided first, on the flows as its sweep will leave them; then it is done, or refused and
-// nothing is done.
+//! One packet of a batch: what it will do is decided first, on the flows as its sweep will leave them; then it is done, or refused and
+//! nothing is done.
 #![tactic(auto)]
 
 pub mod perform;
@@ -13,20 +13,21 @@ ghost use Rattle.packet.specs.Doing.{PlannedAt};
 use crate::perform::carry_out;
 use decide::decide::decide;
 use flow::time::{Idle, Nanos, TimeResolution};
+use forms::refusal::Refusal;
 use plan::sweep::plan_at;
 use sweeps::clock::clock_at;
 use wire::packet::Packet;
 
-// What one packet did: the refusal's number, 0 for none; whether it opened a flow; the records that it finished, and their bytes.
+/// What one packet did: the refusal, if there is one; whether it opened a flow; the records that it finished, and their bytes.
 #[derive(Clone, Copy)]
 pub struct Step {
-    pub refusal: u8,
+    pub refusal: Option<Refusal>,
     pub opened: bool,
     pub records: usize,
     pub bytes: usize,
 }
 
-// The clock once a packet's sweep is done, and how many flows leave by it.
+/// The clock once a packet's sweep is done, and how many flows leave by it.
 #[derive(Clone, Copy)]
 pub struct Plan {
     pub clock: Nanos,
@@ -45,17 +46,12 @@ fn plan_packet(
     ensures { PlannedAt capacity idle.timeout.0 idle.lateness.0 time.0 state.old state.new leaving.new result }
 {
     let header = table::load_header(state);
-    let timeout = idle.timeout;
-    let before = header.clock;
-    let clock = clock_at(timeout, before, time);
+    let clock = clock_at(idle.timeout, header.clock, time);
     let count = plan_at(state, capacity, idle, clock, leaving);
-    Plan {
-        clock: clock,
-        count: count,
-    }
+    Plan { clock, count }
 }
 
-// One packet: its sweep is planned, what it does is decided, and then it is done; or it is refused and nothing is done.
+/// One packet: its sweep is planned, what it does is decided, and then it is done; or it is refused and nothing is done.
 pub fn one_packet(
     state: &mut [u8],
     capacity: usize,
@@ -71,9 +67,7 @@ pub fn one_packet(
     requires { PacketAsked state.old index.old free.old leaving.old capacity idle resolution packet bytes.now }
     ensures { PacketDone packet state.old out.old capacity idle resolution result state.new out.new index.new free.new }
 {
-    let facts = packet.facts;
-    let time = facts.time;
-    let plan = plan_packet(state, capacity, idle, time, leaving);
+    let plan = plan_packet(state, capacity, idle, packet.facts.time, leaving);
     let clock = plan.clock;
     let n = plan.count;
     let room = free[0] as usize + n;

@@ -1,4 +1,4 @@
-// What was decided is done, or where the packet is refused the plan of its sweep is undone.
+//! What was decided is done, or where the packet is refused the plan of its sweep is undone.
 ghost use Rattle.std.specs.Prelude.{◌≡◌, take};
 ghost use Rattle.slots.specs.Table.{slots};
 ghost use Rattle.rules.specs.Engine.{written};
@@ -11,17 +11,16 @@ use crate::Step;
 use crate::size::verdict;
 use act::settle::{end_ended, settle};
 use decide::decide::{Decision, freed_by};
-use flow::time::{EndReason, Idle, Nanos, OptEndReason};
+use flow::time::{EndReason, Idle, Nanos};
+use forms::refusal::Refusal;
 use hand::out::{hand_out, put_back};
-use slots::Found;
-use state::keys::is_found;
 
 // The answer to a refused packet.
-fn refused(number: u8) -> Step
-    ensures { result ≡ refused_step number }
+fn refused(refusal: Refusal) -> Step
+    ensures { result ≡ refused_step refusal }
 {
     Step {
-        refusal: number,
+        refusal: Some(refusal),
         opened: false,
         records: 0,
         bytes: 0,
@@ -29,12 +28,12 @@ fn refused(number: u8) -> Step
 }
 
 // How many records step 4 finishes.
-fn ending_count(reason: OptEndReason) -> usize
+fn ending_count(reason: Option<EndReason>) -> usize
     ensures { result ≡ count_of reason }
 {
     match reason {
-        OptEndReason::Present(_) => 1,
-        OptEndReason::Absent => 0,
+        Some(_) => 1,
+        None => 0,
     }
 }
 
@@ -46,7 +45,7 @@ fn hand_leaving(
     clock: Nanos,
     leaving: &[u16],
     n: usize,
-    ended: Found,
+    ended: Option<usize>,
     index: &mut [u32],
     free: &mut [u16],
     out: &mut [u8],
@@ -54,7 +53,6 @@ fn hand_leaving(
     requires { LeavingAsked capacity idle.timeout.0 idle.lateness.0 clock.0 state.old leaving.now n ended index.old free.old out.old }
     ensures { LeftHanded capacity idle.timeout.0 idle.lateness.0 clock.0 state.old state.new index.new free.new (take n leaving.now) ended out.old out.new result }
 {
-    let timeout = idle.timeout;
     let swept = hand_out(
         state,
         capacity,
@@ -68,7 +66,7 @@ fn hand_leaving(
     let rest = end_ended(
         state,
         capacity,
-        timeout,
+        idle.timeout,
         ended,
         index,
         free,
@@ -93,12 +91,18 @@ fn settle_clocked(
     ensures stepped { Stepped capacity timeout.0 clock.0 state.old state.new index.new free.new (settled_slots decision.slot decision.reason (last_free free.old) decision.name decision.«record» (slots_of (slots state.old capacity))) }
     ensures filled { Filled (written (taken_by decision)) out.old out.new result }
 {
-    let slot = decision.slot;
-    let name = decision.name;
-    let record = decision.record;
-    let reason = decision.reason;
     let n = settle(
-        state, capacity, timeout, slot, name, bytes, record, reason, index, free, out,
+        state,
+        capacity,
+        timeout,
+        decision.slot,
+        decision.name,
+        bytes,
+        decision.record,
+        decision.reason,
+        index,
+        free,
+        out,
     );
     table::store_clock(state, capacity, clock);
     n
@@ -121,17 +125,22 @@ fn perform(
     requires { PerformAsked capacity idle.timeout.0 idle.lateness.0 clock.0 state.old leaving.now n decision bytes.now index.old free.old out.old }
     ensures { Performed capacity idle.timeout.0 idle.lateness.0 clock.0 state.old (take n leaving.now) decision out.old result state.new out.new index.new free.new }
 {
-    let timeout = idle.timeout;
-    let ended = decision.ended;
-    let slot = decision.slot;
-    let reason = decision.reason;
     let first = hand_leaving(
-        state, capacity, idle, clock, leaving, n, ended, index, free, out,
+        state,
+        capacity,
+        idle,
+        clock,
+        leaving,
+        n,
+        decision.ended,
+        index,
+        free,
+        out,
     );
     let rest = settle_clocked(
         state,
         capacity,
-        timeout,
+        idle.timeout,
         clock,
         decision,
         bytes,
@@ -140,9 +149,9 @@ fn perform(
         &mut out[first..],
     );
     Step {
-        refusal: 0,
-        opened: !is_found(slot),
-        records: n + freed_by(ended) + ending_count(reason),
+        refusal: None,
+        opened: !decision.slot.is_some(),
+        records: n + freed_by(decision.ended) + ending_count(decision.reason),
         bytes: first + rest,
     }
 }
@@ -164,13 +173,13 @@ pub(crate) fn carry_out(
     requires { CarryAsked capacity idle.timeout.0 idle.lateness.0 clock.0 state.old leaving.now n decision bytes.now index.old free.old }
     ensures { CarriedOut capacity idle.timeout.0 idle.lateness.0 clock.0 state.old (take n leaving.now) decision out.old result state.new out.new index.new free.new }
 {
-    let timeout = idle.timeout;
-    let number = verdict(state, capacity, leaving, n, decision, out.len());
-    if number == 0 {
-        return perform(
+    match verdict(state, capacity, leaving, n, decision, out.len()) {
+        Some(refusal) => {
+            put_back(state, capacity, idle.timeout.0, leaving, n);
+            refused(refusal)
+        }
+        None => perform(
             state, capacity, idle, clock, leaving, n, decision, bytes, index, free, out,
-        );
+        ),
     }
-    put_back(state, capacity, timeout.0, leaving, n);
-    refused(number)
 }

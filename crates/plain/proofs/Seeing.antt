@@ -1,28 +1,23 @@
 -- What each `return` of plain_at and its helpers answers, from what the tests and calls give. Assumes nothing.
-use Prim.Native.Nat.{ℕ, ◌+◌, ◌-◌, ◌*◌, ◌^◌, ◌≤◌, ◌<◌}
+use Rattle.std.specs.Prelude.{None, Option, Some, Err, Ok, Result}
+use Rattle.std.specs.Result.{result_ok}
+use Prim.Native.Nat.{ℕ, ◌+◌, ◌-◌, ◌*◌, ◌≤◌, ◌<◌}
 use mathlib.Core.Path.{◌≡◌, refl, sym, ap, ◌∙◌}
-use mathlib.Core.List.{List, [], ◌∷◌}
+use mathlib.Core.List.{List}
 use mathlib.Core.Bool.{Bool, true, false, ◌&&◌}
 use native.Mathlib.Omega.{arith}
 use lib.Dec.{ltb, leb, eqb}
-use borrow.Author.Tests.{ltb-true, leb-true, eqb-true, lt-ltb, le-leb, lt-leb}
-use lib.ListN.{length, get_or}
-use denote.Enum.Declared.{tag_of}
-use types.Run.{OneOf, miss}
-use Rattle.forms.specs.Form.{got, byte, raw}
+use borrow.Author.Tests.{ltb-true, leb-true, eqb-true, lt-ltb, le-leb}
+use lib.ListN.{length, take, drop, get_or}
+use lib.Seq.{get_or-take, get_or-drop}
+use Rattle.std.specs.Int.{w32, from_be_bytes}
+use Rattle.forms.specs.Form.{got, byte}
 use Rattle.forms.specs.At.{read_at, byte_at, one_byte, at_inside, at_valid}
 use Rattle.forms.specs.Number.{number, number_bytes, number_writes, number_below, below_number}
 use Rattle.forms.specs.Length.{number_at_least}
-use Rattle.forms.specs.Field.{Taken, NumberTaken, answer}
+use Rattle.forms.specs.Field.{Taken, At}
 use Rattle.forms.specs.Raw.{RawAt, raw_at_first, raw_at_more}
-use Rattle.forms.specs.Optional.{absent16_taken, optional16}
-use Rattle.forms.specs.Answers.{number_at}
-use Rattle.forms.specs.declared.field.Next.{Next}
-use Rattle.forms.specs.declared.field.Next.TheVariants.{At, Short, Refused}
-use Rattle.forms.specs.declared.field.NumberField.{NumberField}
-use Rattle.forms.specs.declared.number.NumberAt.{NumberAt}
-use Rattle.forms.specs.declared.optional.OptU16.{OptU16}
-use Rattle.forms.specs.contracts.number.NumberAt.{the_type}
+use Rattle.forms.specs.Optional.{optional16, optional16_taken}
 use Rattle.key.specs.Shard.{shard_of, symmetric_hash, pair_hash}
 use Rattle.key.specs.Endpoints.{port_pair}
 use Rattle.key.specs.KeyForm.{key, mac}
@@ -36,30 +31,12 @@ use Rattle.plain.specs.Laid.{at_there, at_back, plain_is, both_true, Seen, none_
 use Rattle.plain.specs.Laid.{at_second, at_addresses, at_next, none_here, ports_here, first_here, second_here}
 use Rattle.plain.specs.Laid.{source_here, destination_here, end_here, last_here}
 use Rattle.plain.specs.declared.Plain.{Plain}
-use Rattle.plain.specs.declared.PlainAt.{PlainAt}
+use Rattle.forms.specs.Answers.{stands}
+use Rattle.forms.specs.declared.stop.Stop.{Stop}
 
 -- ---- the tests
 
 module _ (s : List ℕ) (at : ℕ) where
-  pub head_short : length s < at + 29 → false ≡ head_is_plain s at
-  unfolding head_is_plain
-  head_short h = rw (lt-leb (at + 29) (length s) h)
-
-  pub head_tested : {t : Bool} → at + 29 ≤ length s
-      → t ≡ (ltb (get_or s at 0) 128 && eqb (get_or s (at + 1) 0) 0 && eqb (get_or s (at + 2) 0) 1) → t ≡ head_is_plain s at
-  unfolding head_is_plain
-  head_tested h e = rw (le-leb (at + 29) (length s) h) e
-
-  pub tail_short : length s < at + 24 → false ≡ tail_is_plain s at
-  unfolding tail_is_plain
-  tail_short h = rw (lt-leb (at + 24) (length s) h)
-
-  pub tail_tested : {t : Bool} → at + 24 ≤ length s
-      → t ≡ (eqb (get_or s at 0) 4 && eqb (get_or s (at + 5) 0) 4 && eqb (get_or s (at + 22) 0) 0 && eqb (get_or s (at + 23) 0) 0)
-      → t ≡ tail_is_plain s at
-  unfolding tail_is_plain
-  tail_tested h e = rw (le-leb (at + 24) (length s) h) e
-
   -- what a test that was passed says
   pub record Head : Type 0 where
     pub room : at + 29 ≤ length s
@@ -145,33 +122,38 @@ module _ {s : List ℕ} {at : ℕ} {x : Plain} (h : Seen s at x) where
 
 -- ---- what read_number tells of a port
 
-module _ (s : List ℕ) (i : ℕ) {r : NumberAt} {v n : ℕ} (says : number_at r ≡ read_at (number 65535) s i) (is : r ≡ NumberAt.Value v n) where
-  pub value_read : got v n ≡ read_at (number 65535) s i
-  value_read = rw is at says
+ok_was : (r : Result (ℕ × ℕ) Stop) {o : Option (ℕ × ℕ)} {p : ℕ × ℕ} → o ≡ result_ok r → o ≡ Some p → r ≡ Ok p
+ok_was (Ok q) e is = cc
+ok_was (Err why) e is = cc
 
-  pub value_fits : v ≤ 65535
-  value_fits = number_below 65535 v (at_valid (number 65535) s i v n (sym value_read))
+module _
+    (s : List ℕ) (i : ℕ) (r : Result (ℕ × ℕ) Stop) {o : Option (ℕ × ℕ)} {v n : ℕ}
+    (says : stands r ≡ read_at (number 65535) s i) (told : o ≡ result_ok r) (is : o ≡ Some (v, n))
+  where
+    pub value_read : got v n ≡ read_at (number 65535) s i
+    value_read = rw (ok_was r told is) at says
 
-  pub value_inside : n ≤ length s
-  value_inside = at_inside (number 65535) s i v n (sym value_read)
+    pub value_fits : v ≤ 65535
+    value_fits = number_below 65535 v (at_valid (number 65535) s i v n (sym value_read))
 
--- The `else` of a `let` is given that the variant is another one, by its place in the type.
-no_value : (r : NumberAt) (v n : ℕ) → OneOf (1 ∷ 2 ∷ []) (tag_of the_type r) → number_at r ≡ got v n → ⊥
-no_value (NumberAt.Value w i) v n other e = miss (1 ∷ 2 ∷ []) 0 tt other
-no_value NumberAt.Short v n other e = let z : ◌≡◌ {A = ℕ} 0 1 = cc in omega arith
-no_value NumberAt.Refused v n other e = let z : ◌≡◌ {A = ℕ} 0 1 = cc in omega arith
+    pub value_inside : n ≤ length s
+    value_inside = at_inside (number 65535) s i v n (sym value_read)
+
+no_value : (r : Result (ℕ × ℕ) Stop) {o : Option (ℕ × ℕ)} (v n : ℕ) → o ≡ result_ok r → o ≡ None → stands r ≡ got v n → ⊥
+no_value (Ok (w, i)) v n told none e = cc
+no_value (Err why) v n told none e = cc
 
 -- ---- the ways out of plain_at: something else
 
 module _ (s : List ℕ) (at : ℕ) where
-  pub other_head : {r : Bool} → r ≡ head_is_plain s at → r ≡ false → PlainAt.Other ≡ plain_at s at
+  pub other_head : {r : Bool} → r ≡ head_is_plain s at → r ≡ false → None ≡ plain_at s at
   other_head {r} e n =
       let fails = n in
       none_seen s at (λ x h. let z : ◌≡◌ {A = ℕ} 0 1 = cc (seen_head h) in omega arith)
 
-  pub other_first : (r : NumberAt) → number_at r ≡ read_at (number 65535) s (at + 3) → OneOf (1 ∷ 2 ∷ []) (tag_of the_type r)
-      → PlainAt.Other ≡ plain_at s at
-  other_first r says other = none_seen s at (λ x h. no_value r h.first x.second_port other (says ∙ seen_first h))
+  pub other_first : (r : Result (ℕ × ℕ) Stop) {o : Option (ℕ × ℕ)} → stands r ≡ read_at (number 65535) s (at + 3) → o ≡ result_ok r → o ≡ None
+      → None ≡ plain_at s at
+  other_first r says told none = none_seen s at (λ x h. no_value r h.first x.second_port told none (says ∙ seen_first h))
 
   module _ (first middle : ℕ) (read₁ : got first middle ≡ read_at (number 65535) s (at + 3)) where
     -- the second port is read where it stands
@@ -181,12 +163,12 @@ module _ (s : List ℕ) (at : ℕ) where
         let same : x.second_port ≡ middle = cc in
         rw same at (seen_second h)
 
-    pub other_second : (r : NumberAt) → number_at r ≡ read_at (number 65535) s middle → OneOf (1 ∷ 2 ∷ []) (tag_of the_type r)
-        → PlainAt.Other ≡ plain_at s at
-    other_second r says other = none_seen s at (λ x h. no_value r h.second x.addresses other (says ∙ second_read h))
+    pub other_second : (r : Result (ℕ × ℕ) Stop) {o : Option (ℕ × ℕ)} → stands r ≡ read_at (number 65535) s middle → o ≡ result_ok r → o ≡ None
+        → None ≡ plain_at s at
+    other_second r says told none = none_seen s at (λ x h. no_value r h.second x.addresses told none (says ∙ second_read h))
 
     pub other_tail : (second behind : ℕ) {r : Bool} → got second behind ≡ read_at (number 65535) s middle → r ≡ tail_is_plain s behind
-        → r ≡ false → PlainAt.Other ≡ plain_at s at
+        → r ≡ false → None ≡ plain_at s at
     other_tail second behind {r} read₂ e n =
         let fails = n in
         none_seen s at λ x h.
@@ -204,7 +186,7 @@ no_macs p f g a b m n m' n' = refl
 
 plain_told : (k : FlowKey) {next hash middle behind : ℕ} → is_plain k ≡ true → hash ≡ shard_of k 524288
     → middle ≡ next - 24 - length (number_bytes (port_pair k.endpoints).destination) → behind ≡ next - 24
-    → PlainAt.Key (record { hash = hash; second_port = middle; addresses = behind; next = next }) ≡ plain_in (got k next)
+    → Some (record { hash = hash; second_port = middle; addresses = behind; next = next }) ≡ plain_in (got k next)
 plain_told k t h m b = rw (t, h, m, b)
 
 -- fields of one byte
@@ -215,44 +197,38 @@ module _ {s : List ℕ} {i j b : ℕ} (inside : i < length s) (is : get_or s i 0
   number_here : (most : ℕ) → b ≤ most → b < 128 → Taken (number most) s (At i) b (At j)
   number_here most h small = record { reads = rw next (one_byte s i b most inside (sym is) h small) }
 
-absent_here : {s : List ℕ} {i j : ℕ} → i < length s → get_or s i 0 ≡ 0 → j ≡ i + 1 → Taken (optional16 65535) s (At i) OptU16.Absent (At j)
-absent_here {s} {i} {j} inside is next =
-    let r : NumberField = record { value = 0; next = At j } in
-    let zero-here = number_here inside is next 65536 (omega arith) (omega arith) in
-    let t : NumberTaken (number 65536) 65536 s (At i) r = record { fits = omega arith; takes = zero-here; nothing = tt } in
-    (absent16_taken 65535 t refl).takes
+absent_here : {s : List ℕ} {i j : ℕ} → i < length s → get_or s i 0 ≡ 0 → j ≡ i + 1 → Taken (optional16 65535) s (At i) None (At j)
+absent_here {s} {i} {j} inside is next = optional16_taken 65535 (number_here inside is next 65536 (omega arith) (omega arith))
 
 module _ (s : List ℕ) (bytes : (k : ℕ) → k < length s → get_or s k 0 < 256) where
-  two_here : (i : ℕ) → i + 2 ≤ length s → (v : ℕ) × RawAt s i 2 v
-  two_here i h =
+  two_made : (i : ℕ) → i + 2 ≤ length s → RawAt s i 2 (get_or s i 0 * 256 + get_or s (i + 1) 0)
+  two_made i h =
       let one = raw_at_first {s = s} {at = i} (omega arith) refl (bytes i (omega arith)) in
-      let two = raw_at_more one (omega arith) (omega arith) refl (bytes (i + 1) (omega arith)) in
-      (get_or s i 0 * 256 + get_or s (i + 1) 0, two)
+      raw_at_more one (omega arith) (omega arith) refl (bytes (i + 1) (omega arith))
 
-  four_here : (i : ℕ) → i + 4 ≤ length s → (v : ℕ) × RawAt s i 4 v
-  four_here i h =
-      let (v, two) = two_here i (omega arith) in
+  four_made : (i : ℕ) → i + 4 ≤ length s
+      → RawAt s i 4 (((get_or s i 0 * 256 + get_or s (i + 1) 0) * 256 + get_or s (i + 2) 0) * 256 + get_or s (i + 3) 0)
+  four_made i h =
+      let two = two_made i (omega arith) in
       let three = raw_at_more two (omega arith) (omega arith) refl (bytes (i + 2) (omega arith)) in
-      let four = raw_at_more three (omega arith) (omega arith) refl (bytes (i + 3) (omega arith)) in
-      ((v * 256 + get_or s (i + 2) 0) * 256 + get_or s (i + 3) 0, four)
+      raw_at_more three (omega arith) (omega arith) refl (bytes (i + 3) (omega arith))
 
   mac_here : (i j : ℕ) → i + 6 ≤ length s → j ≡ i + 6 → (m : MacAddress) × Taken mac s (At i) m (At j)
   mac_here i j h e =
-      let (high, two) = two_here i (omega arith) in
-      let (low, four) = four_here (i + 2) (omega arith) in
+      let two = two_made i (omega arith) in
+      let four = four_made (i + 2) (omega arith) in
       let place : i + 2 + 4 ≡ j = omega arith in
-      (record { high = high; low = low }, rw (ap At place) at (mac_made two.takes four.takes))
+      (_, rw (ap At place) at (mac_made two.takes four.takes))
 
-  -- an address's number, as raw_field tells it
-  pub address_value : (i : ℕ) {r : NumberField} → i + 4 ≤ length s → NumberTaken (raw 4) (256 ^ 4 - 1) s (At i) r → RawAt s i 4 r.value
-  address_value i {r} h t =
-      let (v, four) = four_here i h in
-      rw (go r.next (t.takes.reads ∙ sym four.takes.reads)) four
-    where
-      go : {v : ℕ} (n : Next) → answer r.value n ≡ got v (i + 4) → r.value ≡ v
-      go (At k) e = cc
-      go Short e = let z : ◌≡◌ {A = ℕ} 0 1 = cc in absurd (omega arith)
-      go Refused e = let z : ◌≡◌ {A = ℕ} 0 1 = cc in absurd (omega arith)
+  -- an address's number, as std reads it
+  pub address_here : (i n : ℕ) → i + 4 ≤ length s → n ≡ from_be_bytes w32 (take 4 (drop i s)) → RawAt s i 4 n
+  address_here i n h e =
+      let byte : (k : ℕ) → k < 4 → get_or (take 4 (drop i s)) k 0 ≡ get_or s (i + k) 0 =
+      λ k low. get_or-take 4 (drop i s) k 0 low ∙ get_or-drop i s k 0 in
+      let first : get_or (take 4 (drop i s)) 0 0 ≡ get_or s i 0 = byte 0 (omega arith) ∙ ap (λ (k : ℕ). get_or s k 0) (omega arith) in
+      let is : n ≡ ((get_or s i 0 * 256 + get_or s (i + 1) 0) * 256 + get_or s (i + 2) 0) * 256 + get_or s (i + 3) 0 =
+      omega (arith, e, first, byte 1 (omega arith), byte 2 (omega arith), byte 3 (omega arith)) in
+      rw is (four_made i h)
 
   module _
       (at first middle second behind source destination : ℕ)
@@ -277,7 +253,7 @@ module _ (s : List ℕ) (bytes : (k : ℕ) → k < length s → get_or s k 0 < 2
           let place₁ : behind + 1 + 4 ≡ behind + 5 = omega arith in
           let place₂ : behind + 6 + 4 ≡ behind + 10 = omega arith in
           let t₁ : Taken (number 255) s (At at) (get_or s at 0) (At (at + 1)) = number_here (omega arith) refl refl 255 (omega arith) small in
-          let t₂ : Taken (optional16 65535) s (At (at + 1)) OptU16.Absent (At (at + 2)) =
+          let t₂ : Taken (optional16 65535) s (At (at + 1)) None (At (at + 2)) =
           absent_here (omega arith) head.none (omega arith) in
           let tag : Taken byte s (At (at + 2)) 1 (At (at + 3)) = byte_here (omega arith) head.ports (omega arith) (omega arith) in
           let port₁ : Taken (number 65535) s (At (at + 3)) first (At middle) = record { reads = read₁ } in
@@ -297,7 +273,7 @@ module _ (s : List ℕ) (bytes : (k : ℕ) → k < length s → get_or s k 0 < 2
           key_made t₁ t₂ t₃ t₄ t₅ t₆ t₇ t₈ t₉
 
       pub plain_made : {hash : ℕ} → hash ≡ plain_hash (get_or s at 0) source first destination second
-          → PlainAt.Key (record { hash = hash; second_port = middle; addresses = behind; next = behind + 24 }) ≡ plain_at s at
+          → Some (record { hash = hash; second_port = middle; addresses = behind; next = behind + 24 }) ≡ plain_at s at
       unfolding plain_hash whole
       plain_made {hash} e =
           let room = tail.room in

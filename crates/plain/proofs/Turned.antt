@@ -1,4 +1,5 @@
 -- The bytes of the reversed key: the parts of a plain key, copied in another order. Assumes nothing.
+use Rattle.std.specs.Prelude.{Some}
 use Prim.Native.Nat.{ℕ, ◌+◌, ◌-◌, ◌≤◌}
 use mathlib.Core.Path.{◌≡◌, refl, sym, ap, ◌∙◌}
 use mathlib.Core.List.{List, [], ◌∷◌, ◌++◌, append_assoc}
@@ -18,7 +19,6 @@ use Rattle.plain.specs.Laid.{plain_written, Seen, seen, part_is, at_second, at_a
 use Rattle.plain.specs.Laid.{source_here, destination_here, source_mac_here, destination_mac_here, end_here}
 use Rattle.plain.specs.PlainLaws.{key_seen}
 use Rattle.plain.specs.declared.Plain.{Plain}
-use Rattle.plain.specs.declared.PlainAt.{PlainAt}
 
 -- ---- where the parts lie, as the code asks it
 
@@ -28,7 +28,7 @@ pub record Places (s : List ℕ) (at : ℕ) (x : Plain) : Type 0 where
   pub end : x.addresses + 24 ≤ length s
   pub short : x.addresses ≤ at + 9
 
-pub places : (s : List ℕ) (at : ℕ) (x : Plain) → PlainAt.Key x ≡ plain_at s at → Places s at x
+pub places : (s : List ℕ) (at : ℕ) (x : Plain) → Some x ≡ plain_at s at → Places s at x
 places s at x plain =
     let h = seen s at x (sym plain) in
     let few = number_at_most 2 h.first (omega (arith, h.first_fits)) in
@@ -67,7 +67,7 @@ eight a b c d e f g h = simp append_assoc
 
 -- ---- the eight copies of write_turned: with the last the reversed key stands there
 
-module _ (s : List ℕ) (at : ℕ) (x : Plain) (plain : PlainAt.Key x ≡ plain_at s at) (out : List ℕ) (room : 33 ≤ length out) where
+module _ (s : List ℕ) (at : ℕ) (x : Plain) (plain : Some x ≡ plain_at s at) (out : List ℕ) (room : 33 ≤ length out) where
   h : Seen s at x
   h = seen s at x (sym plain)
 

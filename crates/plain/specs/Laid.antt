@@ -1,11 +1,10 @@
 -- How a plain key lies in bytes, and where each of its parts is. Assumes nothing.
-use Rattle.std.specs.Prelude.{ℕ, ◌+◌, ◌-◌, ◌≤◌, ◌<◌, ◌≡◌, refl, List, [], ◌∷◌, ◌++◌, Bool, true, false, cond, ◌&&◌, ltb, length, take, drop, get_or}
+use Rattle.std.specs.Prelude.{ℕ, ◌+◌, ◌-◌, ◌≤◌, ◌<◌, ◌≡◌, refl, List, [], ◌∷◌, ◌++◌, Bool, true, false, cond, ◌&&◌, ltb, length, take, drop, get_or, None, Option, Some}
 use Rattle.std.proofs.Common.{sym, ap, ◌∙◌, append_assoc, arith, add-zero, add-one, ltb-true, ltb-false, lt-ltb, length-append, length-drop, drop_of_length-le, drop-cons, drop-drop, take_at, get_or-drop}
 use Rattle.std.proofs.Math.Seq.{drop-append_seam}
-use Rattle.forms.specs.Form.{Form, Read, got, short, refused, and_then, and_then-got, raw, raw_length}
+use Rattle.forms.specs.Form.{Form, Read, got, and_then, and_then-got, raw, raw_length}
 use Rattle.forms.specs.At.{read_at, placed, placed_end, placed_byte}
 use Rattle.forms.specs.Number.{number_bytes, bytes_small}
-use Rattle.forms.specs.declared.optional.OptU16.{OptU16}
 use Rattle.key.specs.Endpoints.{port_pair}
 use Rattle.key.specs.KeyForm.{key, mac, word_behind}
 use Rattle.key.specs.KeyWrite.{key_writes, ports_writes, v4_writes, untagged_writes, no_tunnel_writes}
@@ -16,11 +15,12 @@ use Rattle.key.specs.declared.key.Endpoints.{Endpoints}
 use Rattle.key.specs.declared.key.FlowKey.{FlowKey}
 use Rattle.key.specs.declared.link.MacAddress.{MacAddress}
 use Rattle.key.specs.declared.vlan.VlanTags.{VlanTags}
-use Rattle.key.specs.declared.encapsulation.OptEncapsulation.{OptEncapsulation}
 use Rattle.plain.specs.Plain.{has_ports, is_v4, is_absent, is_untagged, has_no_tunnel, is_plain, plain_of, plain_in, plain_at}
 use Rattle.plain.specs.Tests.{plain_key}
 use Rattle.plain.specs.declared.Plain.{Plain}
-use Rattle.plain.specs.declared.PlainAt.{PlainAt}
+use Rattle.key.specs.declared.encapsulation.Encapsulation.{Encapsulation}
+use Rattle.forms.specs.Form.{stop}
+use Rattle.forms.specs.declared.stop.Stop.{Stop}
 
 -- ---- parts of bytes
 
@@ -85,7 +85,7 @@ key_inside s at k next e = go (ltb (length s) at) refl
     go : (t : Bool) → ltb (length s) at ≡ t → at ≤ length s
     go true q =
         let h = ltb-true (length s) at q in
-        let none : read_at key s at ≡ short = placed_end key.read s at (omega arith) ∙ rw key_ends in
+        let none : read_at key s at ≡ stop Stop.Short = placed_end key.read s at (omega arith) ∙ rw key_ends in
         let z : ◌≡◌ {A = ℕ} 0 1 = cc e in
         absurd (omega arith)
     go false q = ltb-false (length s) at q
@@ -111,9 +111,9 @@ all_true a b c d e f g h =
     let (u, v) = both_true f g h₅ in
     (p, q, r, s, t, u, v)
 
-absent_is : (t : OptU16) → is_absent t ≡ true → t ≡ OptU16.Absent
-absent_is OptU16.Absent h = refl
-absent_is (OptU16.Present v) h = let z : ◌≡◌ {A = ℕ} 0 1 = cc in absurd (omega arith)
+absent_is : (t : Option ℕ) → is_absent t ≡ true → t ≡ None
+absent_is None h = refl
+absent_is (Some v) h = let z : ◌≡◌ {A = ℕ} 0 1 = cc in absurd (omega arith)
 
 ports_are : (e : Endpoints) → has_ports e ≡ true → e ≡ Endpoints.Ports (port_pair e).source (port_pair e).destination
 ports_are (Endpoints.Ports s d) h = refl
@@ -130,12 +130,12 @@ untagged_is VlanTags.Untagged h = refl
 untagged_is (VlanTags.Single t) h = let z : ◌≡◌ {A = ℕ} 0 1 = cc in absurd (omega arith)
 untagged_is (VlanTags.Double t u) h = let z : ◌≡◌ {A = ℕ} 0 1 = cc in absurd (omega arith)
 
-no_tunnel_is : (c : OptEncapsulation) → has_no_tunnel c ≡ true → c ≡ OptEncapsulation.Absent
-no_tunnel_is OptEncapsulation.Absent h = refl
-no_tunnel_is (OptEncapsulation.Present e) h = let z : ◌≡◌ {A = ℕ} 0 1 = cc in absurd (omega arith)
+no_tunnel_is : (c : Option Encapsulation) → has_no_tunnel c ≡ true → c ≡ None
+no_tunnel_is None h = refl
+no_tunnel_is (Some e) h = let z : ◌≡◌ {A = ℕ} 0 1 = cc in absurd (omega arith)
 
 -- a key with other parts in the places where a plain key has no choice
-with_parts : FlowKey → OptU16 → Endpoints → Address → Address → VlanTags → OptEncapsulation → FlowKey
+with_parts : FlowKey → Option ℕ → Endpoints → Address → Address → VlanTags → Option Encapsulation → FlowKey
 with_parts k t e a b g c =
     record {
       source = a;
@@ -149,7 +149,7 @@ with_parts k t e a b g c =
       encapsulation = c;
     }
 
-same_parts : (k : FlowKey) {t t' : OptU16} {e e' : Endpoints} {a a' b b' : Address} {g g' : VlanTags} {c c' : OptEncapsulation}
+same_parts : (k : FlowKey) {t t' : Option ℕ} {e e' : Endpoints} {a a' b b' : Address} {g g' : VlanTags} {c c' : Option Encapsulation}
     → t ≡ t' → e ≡ e' → a ≡ a' → b ≡ b' → g ≡ g' → c ≡ c' → with_parts k t e a b g c ≡ with_parts k t' e' a' b' g' c'
 same_parts k p q r s u v = rw (p, q, r, s, u, v)
 
@@ -278,26 +278,26 @@ module _ (s : List ℕ) (at : ℕ) where
       rw whole at (seen_numbers _ _ _ _ _ _ _ next small here)
 
   -- what is told as a plain key was seen
-  pub seen : (x : Plain) → plain_at s at ≡ PlainAt.Key x → Seen s at x
+  pub seen : (x : Plain) → plain_at s at ≡ Some x → Seen s at x
   seen x e = go (read_at key s at) refl e
     where
       by_test : (k : FlowKey) (next : ℕ) (t : Bool) → is_plain k ≡ t → read_at key s at ≡ got k next
-          → cond t (PlainAt.Key (plain_of k next)) PlainAt.Other ≡ PlainAt.Key x → Seen s at x
+          → cond t (Some (plain_of k next)) None ≡ Some x → Seen s at x
       by_test k next true t r h = let same : plain_of k next ≡ x = cc in rw same at (seen_key k next t r)
       by_test k next false t r h = let z : ◌≡◌ {A = ℕ} 0 1 = cc in absurd (omega arith)
 
-      go : (r : Read FlowKey ℕ) → read_at key s at ≡ r → plain_in r ≡ PlainAt.Key x → Seen s at x
+      go : (r : Read FlowKey ℕ) → read_at key s at ≡ r → plain_in r ≡ Some x → Seen s at x
       go (got k next) r h = by_test k next (is_plain k) refl r h
-      go short r h = let z : ◌≡◌ {A = ℕ} 0 1 = cc in absurd (omega arith)
-      go refused r h = let z : ◌≡◌ {A = ℕ} 0 1 = cc in absurd (omega arith)
+      go (stop Stop.Short) r h = let z : ◌≡◌ {A = ℕ} 0 1 = cc in absurd (omega arith)
+      go (stop Stop.Refused) r h = let z : ◌≡◌ {A = ℕ} 0 1 = cc in absurd (omega arith)
 
   -- where none can be seen stands something else
-  pub none_seen : ((x : Plain) → Seen s at x → ⊥) → PlainAt.Other ≡ plain_at s at
+  pub none_seen : ((x : Plain) → Seen s at x → ⊥) → None ≡ plain_at s at
   none_seen never = go (plain_at s at) refl
     where
-      go : (r : PlainAt) → plain_at s at ≡ r → PlainAt.Other ≡ r
-      go (PlainAt.Key x) e = absurd (never x (seen x e))
-      go PlainAt.Other e = refl
+      go : (r : Option Plain) → plain_at s at ≡ r → None ≡ r
+      go (Some x) e = absurd (never x (seen x e))
+      go None e = refl
 
 -- ---- where each part lies
 

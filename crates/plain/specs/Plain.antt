@@ -1,10 +1,9 @@
 -- The key of most packets, by document 01's key form: a protocol of one byte, no EtherType, ports, two IPv4 addresses, no VLAN tag, no
 -- tunnel. Assumes nothing.
-use Rattle.std.specs.Prelude.{ℕ, ◌-◌, Bool, true, false, cond, ◌&&◌, List, ltb, length}
-use Rattle.forms.specs.Form.{Read, got, short, refused}
+use Rattle.std.specs.Prelude.{ℕ, ◌-◌, Bool, true, false, cond, ◌&&◌, List, ltb, length, None, Option, Some}
+use Rattle.forms.specs.Form.{Read, got}
 use Rattle.forms.specs.At.{read_at}
 use Rattle.forms.specs.Number.{number_bytes}
-use Rattle.forms.specs.declared.optional.OptU16.{OptU16}
 use Rattle.key.specs.Shard.{shard_of}
 use Rattle.key.specs.Endpoints.{port_pair}
 use Rattle.key.specs.KeyForm.{key}
@@ -13,9 +12,10 @@ use Rattle.key.specs.declared.key.Address.{Address}
 use Rattle.key.specs.declared.key.Endpoints.{Endpoints}
 use Rattle.key.specs.declared.key.FlowKey.{FlowKey}
 use Rattle.key.specs.declared.vlan.VlanTags.{VlanTags}
-use Rattle.key.specs.declared.encapsulation.OptEncapsulation.{OptEncapsulation}
 use Rattle.plain.specs.declared.Plain.{Plain}
-use Rattle.plain.specs.declared.PlainAt.{PlainAt}
+use Rattle.key.specs.declared.encapsulation.Encapsulation.{Encapsulation}
+use Rattle.forms.specs.Form.{stop}
+use Rattle.forms.specs.declared.stop.Stop.{Stop}
 
 -- ---- which keys are plain
 
@@ -29,18 +29,18 @@ abbrev pub is_v4 : Address → Bool
 is_v4 (Address.V4 a) = true
 is_v4 (Address.V6 h l) = false
 
-abbrev pub is_absent : OptU16 → Bool
-is_absent OptU16.Absent = true
-is_absent (OptU16.Present n) = false
+abbrev pub is_absent : Option ℕ → Bool
+is_absent None = true
+is_absent (Some n) = false
 
 abbrev pub is_untagged : VlanTags → Bool
 is_untagged VlanTags.Untagged = true
 is_untagged (VlanTags.Single t) = false
 is_untagged (VlanTags.Double t u) = false
 
-abbrev pub has_no_tunnel : OptEncapsulation → Bool
-has_no_tunnel OptEncapsulation.Absent = true
-has_no_tunnel (OptEncapsulation.Present e) = false
+abbrev pub has_no_tunnel : Option Encapsulation → Bool
+has_no_tunnel None = true
+has_no_tunnel (Some e) = false
 
 unfoldable pub is_plain : FlowKey → Bool
 is_plain k =
@@ -61,13 +61,13 @@ plain_of k next =
       next = next;
     }
 
-abbrev pub plain_in : Read FlowKey ℕ → PlainAt
-plain_in (got k next) = cond (is_plain k) (PlainAt.Key (plain_of k next)) PlainAt.Other
-plain_in short = PlainAt.Other
-plain_in refused = PlainAt.Other
+abbrev pub plain_in : Read FlowKey ℕ → Option Plain
+plain_in (got k next) = cond (is_plain k) (Some (plain_of k next)) None
+plain_in (stop Stop.Short) = None
+plain_in (stop Stop.Refused) = None
 
 -- what stands at a place: a plain key, or something else
-abbrev pub plain_at : List ℕ → ℕ → PlainAt
+abbrev pub plain_at : List ℕ → ℕ → Option Plain
 plain_at s at = plain_in (read_at key s at)
 
 -- ---- the key that stands at a place

@@ -1,5 +1,5 @@
 -- What holds of a plain key, for those who build on it. Assumes nothing.
-use Rattle.std.specs.Prelude.{ℕ, ◌-◌, ◌≤◌, ◌≡◌, List, true, length, take, drop}
+use Rattle.std.specs.Prelude.{ℕ, ◌-◌, ◌≤◌, ◌≡◌, List, true, length, take, drop, Some}
 use Rattle.std.proofs.Common.{sym, ap, ◌∙◌, arith}
 use Rattle.forms.specs.Form.{got}
 use Rattle.forms.specs.At.{read_at}
@@ -12,7 +12,6 @@ use Rattle.key.specs.KeyOr.{key_or}
 use Rattle.plain.specs.Tests.{plain_key}
 use Rattle.plain.specs.Laid.{plain_writes, plain_length, Seen, seen, part_is}
 use Rattle.plain.specs.declared.Plain.{Plain}
-use Rattle.plain.specs.declared.PlainAt.{PlainAt}
 
 -- the key of one that was seen
 pub key_seen : {s : List ℕ} {at : ℕ} {p : Plain} (h : Seen s at p)
@@ -20,7 +19,7 @@ pub key_seen : {s : List ℕ} {at : ℕ} {p : Plain} (h : Seen s at p)
 unfolding key_read
 key_seen h = ap key_or h.reads
 
-module _ (s : List ℕ) (at : ℕ) {p : Plain} (plain : plain_at s at ≡ PlainAt.Key p) where
+module _ (s : List ℕ) (at : ℕ) {p : Plain} (plain : plain_at s at ≡ Some p) where
   h : Seen s at p
   h = seen s at p plain
 

@@ -1,13 +1,11 @@
 -- What plain_at looks at: the bytes that every plain key has, and the numbers that its hash is made of. Assumes nothing.
-use Rattle.std.specs.Prelude.{ℕ, ◌+◌, Bool, ◌&&◌, List, ltb, leb, eqb, length, get_or}
-use Rattle.forms.specs.declared.optional.OptU16.{OptU16}
+use Rattle.std.specs.Prelude.{ℕ, ◌+◌, Bool, ◌&&◌, List, ltb, leb, eqb, length, get_or, None}
 use Rattle.key.specs.Shard.{shard_of}
 use Rattle.key.specs.declared.key.Address.{Address}
 use Rattle.key.specs.declared.key.Endpoints.{Endpoints}
 use Rattle.key.specs.declared.key.FlowKey.{FlowKey}
 use Rattle.key.specs.declared.link.MacAddress.{MacAddress}
 use Rattle.key.specs.declared.vlan.VlanTags.{VlanTags}
-use Rattle.key.specs.declared.encapsulation.OptEncapsulation.{OptEncapsulation}
 use Rattle.key.specs.KeyOr.{no_mac}
 
 -- there is room for a plain key, of at least 29 bytes, and its first three stand here: protocol, no EtherType, ports
@@ -28,11 +26,11 @@ plain_key p f g a b m n =
       destination = Address.V4 b;
       endpoints = Endpoints.Ports f g;
       protocol = p;
-      ethertype = OptU16.Absent;
+      ethertype = None;
       source_mac = m;
       destination_mac = n;
       vlan = VlanTags.Untagged;
-      encapsulation = OptEncapsulation.Absent;
+      encapsulation = None;
     }
 
 -- its hash, in the order in which the code hands over its numbers; whatever the MACs are, it is this one

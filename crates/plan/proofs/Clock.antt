@@ -1,14 +1,15 @@
 -- From the limit W − L to the rules' own test. Assumes nothing.
+use Rattle.std.specs.Prelude.{None, Option, Some, is_none}
 use mathlib.Core.Path.{◌≡◌, refl, sym, ap}
 use mathlib.Core.Bool.{Bool, true, false, not, ◌&&◌}
-use mathlib.Core.Logic.{⊎_elim, inl, inr}
+use mathlib.Core.Logic.{◌⊎◌, ⊎_elim, inl, inr}
 use mathlib.Core.List.{List, [], ◌∷◌}
 use Prim.Native.Nat.{ℕ, ◌+◌, ◌-◌, ◌<◌, ◌≤◌}
 use native.Mathlib.Omega.{arith}
 use lib.Dec.{eqb, leb}
-use borrow.Author.Tests.{eq-eqb, ne_eqb, eqb-true, le-leb, lt-leb, leb-true, leb-false}
+use borrow.Author.Tests.{ne_eqb, le-leb, lt-leb, leb-true, leb-false}
 use Rattle.memory.specs.Decides.{Decides}
-use Rattle.memory.proofs.Laws.{less_or, same_or, says_yes}
+use Rattle.memory.proofs.Laws.{less_or, same_or, says_no, says_yes}
 use Rattle.queue.specs.Tree.{never}
 use Rattle.table.specs.View.{view, slot_of}
 use Rattle.table.specs.Due.{NextDue}
@@ -55,11 +56,8 @@ module _ (c T L w : ℕ) (s l : List ℕ) (asked : PlanAsked c T L s l) where
     };
   }
 
-  pub no_timeout : T ≡ 0 → PlanMade c T (leaves_by T L w) (view c s) (view c s) [] 0
-  no_timeout e = nothing (λ f. not_idle (engine.latest f.held) T L w (inl e))
-
-  pub too_early : w < L → PlanMade c T (leaves_by T L w) (view c s) (view c s) [] 0
-  too_early h = nothing (λ f. not_idle (engine.latest f.held) T L w (inr (omega arith)))
+  pub none_leaves : (T ≡ 0) ⊎ ((T ≡ 0 → ⊥) × (w < L)) → PlanMade c T (leaves_by T L w) (view c s) (view c s) [] 0
+  none_leaves h = nothing (λ f. not_idle (engine.latest f.held) T L w (⊎_elim inl (λ h. inr (omega (arith, h.1))) h))
 
   module _ (timed : T ≡ 0 → ⊥) (reached : L ≤ w) where
     pub by_limit : w ≤ never → SweepAsked c T (w - L) s l
@@ -83,8 +81,8 @@ module _ (c T L w : ℕ) (s l : List ℕ) (asked : PlanAsked c T L s l) where
   -- no entry is due: nothing leaves, and nothing has changed
   pub nothing_leaves : NothingDue c T L w (view c s).tree → PlanMade c T (leaves_by T L w) (view c s) (view c s) [] 0
   nothing_leaves quiet =
-      ⊎_elim no_timeout
-      (λ timed. ⊎_elim too_early
+      ⊎_elim (λ e. none_leaves (inl e))
+      (λ timed. ⊎_elim (λ h. none_leaves (inr (timed, h)))
       (λ reached.
       by_clock timed reached s [] 0
       (record {
@@ -99,14 +97,9 @@ module _ (c T L w : ℕ) (s l : List ℕ) (asked : PlanAsked c T L s l) where
 -- ## Whether an entry is due
 
 module _ (c T L w : ℕ) (tree : List ℕ) where
-  pub never_due : T ≡ 0 → Decides true (NothingDue c T L w tree)
-  never_due e = says_yes (λ timed. absurd (timed e))
+  pub none_due : (T ≡ 0) ⊎ ((T ≡ 0 → ⊥) × (w < L)) → Decides true (NothingDue c T L w tree)
+  none_due h = says_yes (λ timed reached. ⊎_elim (λ e. absurd (timed e)) (λ h. absurd (omega (arith, h.1))) h)
 
-  pub not_yet : w < L → Decides true (NothingDue c T L w tree)
-  not_yet h = says_yes (λ timed reached. absurd (omega arith))
-
-  pub next_tells : (T ≡ 0 → ⊥) → L ≤ w → (r : ℕ) → NextDue c (w - L) tree r → Decides (eqb r c) (NothingDue c T L w tree)
-  next_tells timed reached r next = (
-    λ e t l. next.past (eqb-true r c e),
-    λ quiet. eq-eqb r c (⊎_elim (λ (h : r < c). absurd (omega (arith, next.soon h, quiet timed reached r h))) (λ (h : c ≤ r). omega (arith, next.within)) (less_or r c)),
-  )
+  pub next_tells : (T ≡ 0 → ⊥) → L ≤ w → (r : Option ℕ) → NextDue c (w - L) tree r → Decides (is_none r) (NothingDue c T L w tree)
+  next_tells timed reached None next = says_yes (λ t l. next)
+  next_tells timed reached (Some i) next = says_no (λ quiet. omega (arith, next.1, quiet timed reached i next.0))

@@ -1,10 +1,10 @@
 -- Which list it is: a list in order that has every flow of a kind once, and no other, is the one that the rules make. Assumes nothing.
+use Rattle.std.specs.Prelude.{None, Some}
 use mathlib.Core.Path.{◌≡◌, refl, sym, ap, subst}
 use mathlib.Core.Bool.{Bool, true, false, cond}
 use mathlib.Core.Logic.{◌⊎◌, inl, inr, ⊎_elim}
 use mathlib.Core.List.Permᴰ
 use mathlib.Core.List.{List, [], ◌∷◌, map}
-use mathlib.Core.Option.{none, some}
 use Prim.Native.Nat.{ℕ, suc, zero, ◌<◌}
 use native.Mathlib.Omega.{arith}
 use lib.ListN.{length, get_or}
@@ -126,7 +126,7 @@ module _ {B : Type 0} (blank : B) (W : Terms) (used : B → Bool) (flow : B → 
   element_sits (b ∷ l) (suc i) h u = go (used b) (element_sits l i (omega arith) u)
     where
       go : (t : Bool) → Element (flow (get_or l i blank)) (occupied W (map (sits blank W used flow) l))
-          → Element (flow (get_or l i blank)) (occupied W (cond t (some (flow b)) none ∷ map (sits blank W used flow) l))
+          → Element (flow (get_or l i blank)) (occupied W (cond t (Some (flow b)) None ∷ map (sits blank W used flow) l))
       go true e = inr e
       go false e = e
 

@@ -4,13 +4,16 @@ use mathlib.Core.Bool.{Bool, true, false, cond, ◌||◌}
 use mathlib.Core.Logic.{⊎_elim}
 use mathlib.Core.List.{List, [], ◌∷◌, ◌++◌, append_assoc}
 use Prim.Native.Nat.{ℕ, suc, zero, ◌+◌, ◌-◌, ◌<◌, ◌≤◌}
-use native.Mathlib.Numerals.{add-one}
 use native.Mathlib.Omega.{arith}
 use lib.Dec.{eqb}
-use lib.ListN.{length, get_or, set, take, drop, length-set, length-take, length-drop, take-append-drop, drop_of_length-le}
-use lib.Seq.{take-take, get_or-take, get_or-drop, take-suc-set, drop-cons}
+use lib.ListN.{length, get_or, set, take, drop, length-take, length-drop, take-append-drop}
+use lib.Seq.{take-take, get_or-take, get_or-drop}
 use borrow.Author.Tests.{eq-eqb, ne_eqb}
 use Rattle.memory.proofs.Laws.{same_or}
+use Rattle.std.specs.List.{copy_within}
+use Rattle.std.proofs.Math.Seq.{paste, take-set-lt}
+use Rattle.std.proofs.lemmas.List.{drop-take, set-append_left, take_more_set}
+use Rattle.std.proofs.lemmas.List.Edits.{take-paste}
 use Rattle.rules.specs.Order.{at_most}
 use Rattle.rules.specs.Totals.{All, either}
 use Rattle.rules.specs.Laws.{Ordered}
@@ -167,50 +170,21 @@ counted c (x ∷ l) o h =
 pub once_few : (c : ℕ) (l : List ℕ) → Once l → All (λ i. i < c) l → length l ≤ c
 once_few c l o h = omega (arith, counted c l o h, count_few (is_in l) c)
 
--- ## The list shifted up by one from place k
+-- ## The list shifted up by one from place k, and slot i stored there
 
-drop_take : (l : List ℕ) (j n : ℕ) → j < n → n ≤ length l → drop j (take n l) ≡ get_or l j 0 ∷ drop (suc j) (take n l)
-drop_take l j n h k =
-    drop-cons (take n l) j 0 (omega (arith, length-take n l)) ∙ ap (λ (x : ℕ). x ∷ drop (suc j) (take n l)) (get_or-take n l j 0 h)
+shifted_by : (l : List ℕ) (k m i : ℕ) → k + m < length l → take (k + m + 1) (set (paste l (k + 1) (drop k l) m) k i) ≡ put_at k i (take (k + m) l)
+shifted_by l k m i h =
+    let moved = paste l (k + 1) (drop k l) m in
+    take-set-lt (k + m + 1) moved k i (omega arith)
+    ∙ ap (λ (t : ℕ). set (take t moved) k i) (omega arith)
+    ∙ ap (λ (a : List ℕ). set a k i) (take-paste l (k + 1) (drop k l) m (omega arith) (omega (arith, length-drop k l)))
+    ∙ set-append_left (take (k + 1) l) (take m (drop k l)) k i (omega (arith, length-take (k + 1) l))
+    ∙ ap (λ (a : List ℕ). a ++ take m (drop k l)) (sym (take-set-lt (k + 1) l k i (omega arith)) ∙ take_more_set l k i (omega arith))
+    ∙ append_assoc (take k l) (i ∷ []) (take m (drop k l))
+    ∙ ap (λ (a : List ℕ). a ++ (i ∷ take m (drop k l))) (sym (take-take k (k + m) l (omega arith)))
+    ∙ ap (λ (b : List ℕ). take k (take (k + m) l) ++ (i ∷ b)) (sym (drop-take k m l))
 
-drop_take_set : (l : List ℕ) (j n x : ℕ) → drop (suc j) (take n (set l j x)) ≡ drop (suc j) (take n l)
-drop_take_set [] j n x = refl
-drop_take_set (y ∷ l) j zero x = refl
-drop_take_set (y ∷ l) zero (suc n) x = refl
-drop_take_set (y ∷ l) (suc j) (suc n) x = drop_take_set l j n x
-
--- the slots from k on are being moved up, and x is in hand for place j
-pub record Shifting (l₀ : List ℕ) (n k i : ℕ) (l : List ℕ) (j x : ℕ) : Type 0 where
-  pub long : length l ≡ length l₀
-  pub within : j ≤ n
-  pub is : take j l ++ (x ∷ drop j (take n l)) ≡ put_at k i (take n l₀)
-
-pub shift_begins : (l : List ℕ) (n k i : ℕ) → k ≤ n → Shifting l n k i l k i
-shift_begins l n k i h = record {
-  long = refl;
-  within = h;
-  is = ap (λ (a : List ℕ). a ++ (i ∷ drop k (take n l))) (sym (take-take k n l h));
-}
-
-pub shift_goes : (l₀ : List ℕ) (n k i : ℕ) (l : List ℕ) (j x : ℕ) → n < length l₀ → j < n → Shifting l₀ n k i l j x
-    → Shifting l₀ n k i (set l j x) (j + 1) (get_or l j 0)
-shift_goes l₀ n k i l j x room h s =
-    let y = get_or l j 0 in
-    record {
-      long = length-set l j x ∙ s.long;
-      within = omega arith;
-      is =
-          rw add-one (ap (λ (a : List ℕ). a ++ (y ∷ drop (suc j) (take n (set l j x)))) (take-suc-set l j x (omega (arith, s.long)))
-          ∙ ap (λ (b : List ℕ). (take j l ++ (x ∷ [])) ++ (y ∷ b)) (drop_take_set l j n x)
-          ∙ append_assoc (take j l) (x ∷ []) (y ∷ drop (suc j) (take n l))
-          ∙ ap (λ (b : List ℕ). take j l ++ (x ∷ b)) (sym (drop_take l j n h (omega (arith, s.long)))) ∙ s.is);
-    }
-
-pub shift_ends : (l₀ : List ℕ) (n k i : ℕ) (l : List ℕ) (j x : ℕ) → n < length l₀ → n ≤ j → Shifting l₀ n k i l j x
-    → take (n + 1) (set l n x) ≡ put_at k i (take n l₀)
-shift_ends l₀ n k i l j x room h s =
-    let e : j ≡ n = omega (arith, s.within) in
-    let short : length (take n l) ≤ n = omega (arith, length-take n l) in
-    rw add-one (take-suc-set l n x (omega (arith, s.long))
-    ∙ ap (λ (b : List ℕ). take n l ++ (x ∷ b)) (sym (drop_of_length-le (take n l) short))
-    ∙ subst (λ (m : ℕ). take m l ++ (x ∷ drop m (take n l)) ≡ put_at k i (take n l₀)) e s.is)
+pub shifted : (l : List ℕ) (n k i : ℕ) → n < length l → k ≤ n → take (n + 1) (set (copy_within l k n (k + 1)) k i) ≡ put_at k i (take n l)
+shifted l n k i h g =
+    let e : k + (n - k) ≡ n = omega arith in
+    subst (λ (t : ℕ). take (t + 1) (set (copy_within l k n (k + 1)) k i) ≡ put_at k i (take t l)) e (shifted_by l k (n - k) i (omega arith))

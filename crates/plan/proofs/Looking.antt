@@ -1,53 +1,28 @@
--- The search for a slot's place in the list, from the back. Assumes nothing.
-use mathlib.Core.Path.{◌≡◌, sym, ap, ◌∙◌, subst}
-use mathlib.Core.Bool.{Bool, true, false}
-use mathlib.Core.Logic.{⊎_elim}
-use mathlib.Core.List.{List}
-use Prim.Native.Nat.{ℕ, ◌-◌, ◌<◌, ◌≤◌}
-use native.Mathlib.Omega.{arith}
-use lib.ListN.{get_or, take, length-take}
-use lib.Seq.{get_or-take}
-use Rattle.memory.proofs.Laws.{same_or}
-use Rattle.rules.specs.Order.{at_most}
-use Rattle.plan.specs.Steps.{Fits, PlaceFor, PlaceAsked}
-use Rattle.plan.proofs.Lists.{all_at}
+-- What is asked of each slot of a list that is gone through from the back. Assumes nothing.
+use Rattle.std.specs.List.{push}
+use Rattle.std.specs.Iterator.{Yields, CallableAtEachTurn}
+use Rattle.std.specs.Slice.Iter.{iter_rest, iter_steps_back}
+use Rattle.std.proofs.Common.{Iter, Bor}
+use Rattle.std.proofs.lemmas.Fn.{serves_by}
+use mathlib.Core.Path.{◌≡◌, refl, sym, subst}
+use mathlib.Core.List.{List, [], ◌∷◌, ◌++◌}
+use Prim.Native.Nat.{ℕ}
+use Rattle.rules.specs.Totals.{All}
 
--- no slot from place k on comes before slot i
-pub record Looking (rank : ℕ → List ℕ) (l : List ℕ) (n i k : ℕ) : Type 0 where
-  pub within : k ≤ n
-  pub behind : (j : ℕ) → k ≤ j → j < n → at_most (rank i) (rank (get_or l j 0)) ≡ true
+all_front : (P : ℕ → Type 0) (a b : List ℕ) → All P (a ++ b) → All P a
+all_front P [] b h = tt
+all_front P (x ∷ a) b h = (h.0, all_front P a b h.1)
 
-pub look_begins : (rank : ℕ → List ℕ) (l : List ℕ) (n i : ℕ) → Looking rank l n i n
-look_begins rank l n i = record { within = omega arith; behind = λ j g h. absurd (omega arith) }
+all_last : (P : ℕ → Type 0) (a : List ℕ) (x : ℕ) → All P (push a x) → P x
+all_last P [] x h = h.0
+all_last P (y ∷ a) x h = all_last P a x h.1
 
-module _ (s : List ℕ) (rank : ℕ → List ℕ) (l : List ℕ) (n i : ℕ) (asked : PlaceAsked s l n i) (k : ℕ) (look : Looking rank l n i k) where
-  -- the slot before place k
-  pub look_fits : 0 < k → Fits s (get_or l (k - 1) 0)
-  look_fits h =
-      subst (Fits s) (get_or-take n l (k - 1) 0 (omega (arith, look.within)))
-      (all_at (Fits s) 0 (take n l) (k - 1) asked.others (omega (arith, length-take n l, look.within, asked.long)))
+all_left : (P : ℕ → Type 0) (xs : List (Bor ℕ)) (s t : Iter ℕ) → Yields iter_steps_back s xs t → All P (iter_rest s) → All P (iter_rest t)
+all_left P [] s t e a = subst (λ (u : Iter ℕ). All P (iter_rest u)) e a
+all_left P (x ∷ xs) s t y a = all_left P xs y.0 t y.2 (all_front P (iter_rest y.0) (x.now ∷ []) (subst (All P) y.1 a))
 
-  pub look_goes : 0 < k → (b : Bool) → b ≡ true → b ≡ at_most (rank i) (rank (get_or l (k - 1) 0)) → Looking rank l n i (k - 1)
-  look_goes h b t e = record {
-    within = omega (arith, look.within);
-    behind = λ j g m. ⊎_elim
-        (λ (q : j ≡ k - 1). ap (λ (x : ℕ). at_most (rank i) (rank (get_or l x 0))) q ∙ sym e ∙ t)
-        (λ o. look.behind j (omega arith) m) (same_or j (k - 1));
-  }
-
-  listed_behind : (j : ℕ) → k ≤ j → j < n → at_most (rank i) (rank (get_or (take n l) j 0)) ≡ true
-  listed_behind j g h = ap (λ (x : ℕ). at_most (rank i) (rank x)) (get_or-take n l j 0 h) ∙ look.behind j g h
-
-  found : (0 < k → at_most (rank i) (rank (get_or (take n l) (k - 1) 0)) ≡ false) → PlaceFor rank (take n l) i k
-  found last = record {
-    within = omega (arith, length-take n l, look.within, asked.long);
-    last = last;
-    behind = λ j g h. listed_behind j g (omega (arith, length-take n l, asked.long));
-  }
-
-  pub look_stops : 0 < k → (b : Bool) → b ≡ false → b ≡ at_most (rank i) (rank (get_or l (k - 1) 0)) → PlaceFor rank (take n l) i k
-  look_stops h b t e =
-      found λ z. ap (λ (x : ℕ). at_most (rank i) (rank x)) (get_or-take n l (k - 1) 0 (omega (arith, look.within))) ∙ sym e ∙ t
-
-  pub look_ends : k ≤ 0 → PlaceFor rank (take n l) i k
-  look_ends h = found λ z. absurd (omega arith)
+pub asked_back : (P : ℕ → Type 0) {F : Type 0} {R : F → Bor ℕ → F → Type 0} {Q : F → Bor ℕ → Type 0} {s : Iter ℕ} {f : F} → All P (iter_rest s)
+    → ((x : Bor ℕ) (q : F) → R f x q → q ≡ f) → ((x : Bor ℕ) → P x.now → Q f x) → CallableAtEachTurn iter_steps_back R Q s f
+asked_back P {F} {R} {Q} {s} {f} a stays asks =
+    serves_by R (λ xs q. q ≡ f) (λ xs q x v e r. stays x v (subst (λ (p : F). R p x v) e r)) iter_steps_back Q s f refl
+    (λ xs t q x u y e j. subst (λ (p : F). Q p x) (sym j) (asks x (all_last P (iter_rest u) x.now (subst (All P) e (all_left P xs s t y a)))))

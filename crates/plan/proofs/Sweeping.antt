@@ -1,4 +1,5 @@
 -- The loop of a sweep's plan: it begins, deals with a slot, ends. Assumes nothing.
+use Rattle.std.specs.Prelude.{None, Option, Some}
 use mathlib.Core.Path.{◌≡◌, refl, sym, ap, ◌∙◌, subst}
 use mathlib.Core.Bool.{true}
 use mathlib.Core.Logic.{⊎_elim}
@@ -89,8 +90,8 @@ module _ (c T limit : ℕ) (s l : List ℕ) (n i : ℕ) (long : n ≤ length l) 
 
 -- ## The loop
 
--- n slots are listed, and slot i's entry is the next that is due
-pub record Looping (c T limit : ℕ) (s₀ leaving₀ s leaving : List ℕ) (n i : ℕ) : Type 0 where
+-- n slots are listed, and `due` is a slot whose entry is the next that is due, if there is one
+pub record Looping (c T limit : ℕ) (s₀ leaving₀ s leaving : List ℕ) (n : ℕ) (due : Option ℕ) : Type 0 where
   pub size : 256 + 640 * c ≤ length s
   pub long : length s ≡ length s₀
   pub room : length leaving ≡ length leaving₀
@@ -98,14 +99,14 @@ pub record Looping (c T limit : ℕ) (s₀ leaving₀ s leaving : List ℕ) (n i
   pub same : QueueOnly (view c s₀) (view c s)
   pub spare : node (view c s).tree 0 ≡ node (view c s₀).tree 0
   pub plan : Planning c T limit (view c s₀).table (view c s).tree (take n leaving)
-  pub next : NextDue c limit (view c s).tree i
+  pub next : NextDue c limit (view c s).tree due
 
 queue_twice : (v v1 v2 : View) → QueueOnly v v1 → QueueOnly v1 v2 → QueueOnly v v2
 queue_twice v v1 v2 p q = q ∙ ap (with_tree v2.tree) p
 
 module _ (c T limit : ℕ) (s₀ l₀ : List ℕ) (asked : SweepAsked c T limit s₀ l₀) where
-  pub loop_begins : (i : ℕ) → NextDue c limit (view c s₀).tree i → Looping c T limit s₀ l₀ s₀ l₀ 0 i
-  loop_begins i next = record {
+  pub loop_begins : (due : Option ℕ) → NextDue c limit (view c s₀).tree due → Looping c T limit s₀ l₀ s₀ l₀ 0 due
+  loop_begins due next = record {
     size = asked.size;
     long = refl;
     room = refl;
@@ -116,44 +117,49 @@ module _ (c T limit : ℕ) (s₀ l₀ : List ℕ) (asked : SweepAsked c T limit 
     next = next;
   }
 
-  module _ (s l : List ℕ) (n i : ℕ) (h : Looping c T limit s₀ l₀ s l n i) where
+  module _ (s l : List ℕ) (n : ℕ) (due : Option ℕ) (h : Looping c T limit s₀ l₀ s l n due) (i : ℕ) (is : due ≡ Some i) where
+    -- slot i's entry is due
+    here : NextDue c limit (view c s).tree (Some i)
+    here = subst (NextDue c limit (view c s).tree) is h.next
+
     -- the table is as it was
     is_table : (view c s).table ≡ (view c s₀).table
     is_table = ap (λ (v : View). v.table) h.same
 
-    due_slot : i < c → DueSlot c T limit (view c s).table (view c s).tree (take n l) i
-    due_slot low = record {
+    due_slot : DueSlot c T limit (view c s).table (view c s).tree (take n l) i
+    due_slot = record {
       timed = asked.timed;
       below = asked.below;
       plan = subst (λ (t : List (List ℕ)). Planning c T limit t (view c s).tree (take n l)) (sym is_table) h.plan;
-      low = low;
-      soon = h.next.soon low;
+      low = here.0;
+      soon = here.1;
     }
 
     long_enough : n ≤ length l
     long_enough = omega (arith, h.few, h.room, asked.room)
 
-    pub loop_asks : i < c → OneAsked c s l n i
-    loop_asks low = record {
+    pub loop_asks : OneAsked c s l n i
+    loop_asks = record {
       size = h.size;
       most = asked.most;
       room = omega (arith, h.room, asked.room);
-      few = one_fits c T limit s l n i long_enough (due_slot low);
-      low = low;
-      others = listed_low (due_slot low);
+      few = one_fits c T limit s l n i long_enough due_slot;
+      low = here.0;
+      others = listed_low due_slot;
       sound = h.plan.names.sound;
     }
 
-    module _ (low : i < c) (s' l' : List ℕ) (r : ℕ) (turn : Dealt c T i n s s' l l' r) where
+    module _ (s' l' : List ℕ) (r : ℕ) (turn : Dealt c T i n s s' l l' r) where
       stepped : Stepped c T limit (view c s) (view c s') (take r l') r
       stepped =
-          ⊎_elim (step_back c T limit s l n i long_enough (due_slot low) s' l' r) (step_out c T limit s l n i long_enough (due_slot low) s' l' r) turn
+          ⊎_elim (step_back c T limit s l n i long_enough due_slot s' l' r) (step_out c T limit s l n i long_enough due_slot s' l' r) turn
 
       pub loop_sound : Sound (view c s').tree c
       loop_sound = stepped.plan.names.sound
 
-      pub loop_goes : (i' : ℕ) → length s' ≡ length s → length l' ≡ length l → NextDue c limit (view c s').tree i' → Looping c T limit s₀ l₀ s' l' r i'
-      loop_goes i' e f next = record {
+      pub loop_goes : (due' : Option ℕ) → length s' ≡ length s → length l' ≡ length l → NextDue c limit (view c s').tree due'
+          → Looping c T limit s₀ l₀ s' l' r due'
+      loop_goes due' e f next = record {
         size = omega (arith, h.size);
         long = e ∙ h.long;
         room = f ∙ h.room;
@@ -200,12 +206,12 @@ module _ (c T limit : ℕ) (s tree listed : List ℕ) (timed : T ≡ 0 → ⊥) 
   pub planned : Planned c T (goes T limit) (view c s).table tree listed
   planned = record { names = p.names; slots = p.slots; once = p.once; all = all_listed; flows = listed_flows }
 
-pub loop_ends : (c T limit : ℕ) (s₀ l₀ : List ℕ) → SweepAsked c T limit s₀ l₀ → (s l : List ℕ) (n i : ℕ) → Looping c T limit s₀ l₀ s l n i → c ≤ i
+pub loop_ends : (c T limit : ℕ) (s₀ l₀ : List ℕ) → SweepAsked c T limit s₀ l₀ → (s l : List ℕ) (n : ℕ) (due : Option ℕ) → Looping c T limit s₀ l₀ s l n due → due ≡ None
     → PlanMade c T (goes T limit) (view c s₀) (view c s) (take n l) n
-loop_ends c T limit s₀ l₀ asked s l n i h e = record {
+loop_ends c T limit s₀ l₀ asked s l n due h e = record {
   few = h.few;
   same = h.same;
   spare = h.spare;
   plan =
-      planned c T limit s₀ (view c s).tree (take n l) asked.timed asked.flows h.plan (h.next.past (omega (arith, h.next.within)));
+      planned c T limit s₀ (view c s).tree (take n l) asked.timed asked.flows h.plan (subst (NextDue c limit (view c s).tree) e h.next);
 }

@@ -1,4 +1,4 @@
-// A drain's plan: every open slot, in order of key bytes.
+//! A drain's plan: every open slot, in order of key bytes.
 ghost use Rattle.std.specs.Prelude.{take};
 ghost use Rattle.table.specs.View.{view};
 ghost use Rattle.plan.specs.Plan.{DrainAsked, Gathered};
@@ -6,30 +6,17 @@ ghost use Rattle.plan.specs.Steps.{key_at, PlaceAsked, PlaceFor, GatherAsked, Sl
 
 use crate::order::key_at_most;
 use crate::sweep::put_in;
-
-// Where the slots begin.
-const HEADER_BYTES: usize = 256;
-
-// The length of a slot.
-const SLOT_BYTES: usize = 624;
-
-// The first byte of a slot that is used.
-const USED: u8 = 1;
+use slots::{HEADER_BYTES, SLOT_BYTES, USED};
 
 // Where slot i belongs in the first n of the list, by key.
 fn place_by_key(state: &[u8], leaving: &[u16], n: usize, i: usize) -> usize
     requires { PlaceAsked state.now leaving.now n i }
     ensures { PlaceFor (key_at state.now) (take n leaving.now) i result }
 {
-    let mut k = n;
-    while 0 < k {
-        let j = leaving[k - 1] as usize;
-        if !key_at_most(state, i, j) {
-            return k;
-        }
-        k -= 1;
-    }
-    k
+    let last = leaving[..n]
+        .iter()
+        .rposition(|&j| !key_at_most(state, i, j as usize));
+    last.map_or(0, |k| k + 1)
 }
 
 // Slot i goes into the list if it is used.
@@ -45,16 +32,14 @@ fn gather_one(state: &[u8], leaving: &mut [u16], n: usize, i: usize) -> usize
     n + 1
 }
 
-// Every open slot, in order of key bytes; their number is the answer.
+/// Every open slot, in order of key bytes; their number is the answer.
 pub fn plan_drain(state: &[u8], capacity: usize, leaving: &mut [u16]) -> usize
     requires { DrainAsked capacity state.now leaving.old }
     ensures { Gathered capacity (view capacity state.now).table (take result leaving.new) result }
 {
     let mut n = 0;
-    let mut i = 0;
-    while i < capacity {
+    for i in 0..capacity {
         n = gather_one(state, leaving, n, i);
-        i += 1;
     }
     n
 }

@@ -1,4 +1,4 @@
-// A sweep's plan: the slots whose flows leave by the clock go from the queue to the list.
+//! A sweep's plan: the slots whose flows leave by the clock go from the queue to the list.
 ghost use Rattle.std.specs.Prelude.{◌≡◌, ◌+◌, ◌≤◌, ◌<◌, length, take};
 ghost use Rattle.memory.specs.Decides.{Decides};
 ghost use Rattle.table.specs.View.{view};
@@ -13,32 +13,21 @@ fn place_for(state: &[u8], leaving: &[u16], n: usize, i: usize) -> usize
     requires { PlaceAsked state.now leaving.now n i }
     ensures { PlaceFor (rank_at state.now) (take n leaving.now) i result }
 {
-    let mut k = n;
-    while 0 < k {
-        let j = leaving[k - 1] as usize;
-        if !at_most(state, i, j) {
-            return k;
-        }
-        k -= 1;
-    }
-    k
+    let last = leaving[..n]
+        .iter()
+        .rposition(|&j| !at_most(state, i, j as usize));
+    last.map_or(0, |k| k + 1)
 }
 
-// Slot i goes into place k of the first n.
+// Slot i goes into place k of the first n, and those from there on move up by one.
+#[tactic(auto, using(crate::proofs::Lists::shifted))]
 pub(crate) fn put_in(leaving: &mut [u16], n: usize, k: usize, i: u16)
     requires n_in_bounds { n < length leaving.old }
     requires k_le_n { k ≤ n }
     ensures { take (n + 1) leaving.new ≡ put_at k i (take n leaving.old) }
 {
-    let mut x = i;
-    let mut j = k;
-    while j < n {
-        let y = leaving[j];
-        leaving[j] = x;
-        x = y;
-        j += 1;
-    }
-    leaving[n] = x;
+    leaving.copy_within(k..n, k + 1);
+    leaving[k] = i;
 }
 
 // Slot i, whose entry is due: it goes back to its due time where the entry is another, even if that is due too; else it goes to the
@@ -78,16 +67,16 @@ fn plan_sweep(
     ensures { PlanMade capacity timeout (goes timeout limit) (view capacity state.old) (view capacity state.new) (take result leaving.new) result }
 {
     let mut n = 0;
-    let mut i = table::next_due(state, capacity, limit);
-    while i < capacity {
+    let mut next = table::next_due(state, capacity, limit);
+    while let Some(i) = next {
         n = plan_one(state, capacity, timeout, leaving, n, i);
-        i = table::next_due(state, capacity, limit);
+        next = table::next_due(state, capacity, limit);
     }
     n
 }
 
-// Which flows leave by the clock: their slots go into the list, in order of end and key, and their number is the answer. None leaves
-// where the timeout is 0 or the clock has not reached the lateness.
+/// Which flows leave by the clock: their slots go into the list, in order of end and key, and their number is the answer. None leaves
+/// where the timeout is 0 or the clock has not reached the lateness.
 pub fn plan_at(
     state: &mut [u8],
     capacity: usize,
@@ -98,29 +87,20 @@ pub fn plan_at(
     requires { PlanAsked capacity idle.timeout.0 idle.lateness.0 state.old leaving.old }
     ensures { PlanMade capacity idle.timeout.0 (leaves_by idle.timeout.0 idle.lateness.0 clock.0) (view capacity state.old) (view capacity state.new) (take result leaving.new) result }
 {
-    let timeout = idle.timeout;
-    let lateness = idle.lateness;
-    if timeout.0 == 0 {
+    if idle.timeout.0 == 0 || clock.0 < idle.lateness.0 {
         return 0;
     }
-    if clock.0 < lateness.0 {
-        return 0;
-    }
-    plan_sweep(state, capacity, timeout.0, clock.0 - lateness.0, leaving)
+    let limit = clock.0 - idle.lateness.0;
+    plan_sweep(state, capacity, idle.timeout.0, limit, leaving)
 }
 
-// Whether the queue has no entry that is due by the clock: then no flow leaves, and there is nothing to plan.
+/// Whether the queue has no entry that is due by the clock: then no flow leaves, and there is nothing to plan.
 pub fn nothing_due(state: &[u8], capacity: usize, idle: Idle, clock: Nanos) -> bool
     requires { DueAsked capacity state.now }
     ensures { Decides result (NothingDue capacity idle.timeout.0 idle.lateness.0 clock.0 (view capacity state.now).tree) }
 {
-    let timeout = idle.timeout;
-    let lateness = idle.lateness;
-    if timeout.0 == 0 {
+    if idle.timeout.0 == 0 || clock.0 < idle.lateness.0 {
         return true;
     }
-    if clock.0 < lateness.0 {
-        return true;
-    }
-    table::next_due(state, capacity, clock.0 - lateness.0) == capacity
+    table::next_due(state, capacity, clock.0 - idle.lateness.0).is_none()
 }

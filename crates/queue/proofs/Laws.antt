@@ -1,4 +1,5 @@
 -- The laws of `specs/Tree.antt`. Assumes nothing.
+use Rattle.std.specs.Prelude.{Some}
 use mathlib.Core.Path.{◌≡◌, refl, sym, ap, ◌∙◌, subst}
 use mathlib.Core.Logic.{⊎_elim, inl, inr}
 use mathlib.Core.List.{List}
@@ -9,7 +10,6 @@ use lib.Arith.{bin_ind}
 use Rattle.memory.specs.Bytes.{num, le, part}
 use Rattle.memory.proofs.Laws.{length_le, num_le, length_patch, part_patched, part_elsewhere, apart, less_or, same_or, part_replicate}
 use Rattle.queue.specs.Tree.{node, with_node, Lesser, Sound, Refreshed, DueSet, LeastDue, Empty, never}
-use Rattle.queue.specs.declared.Found.TheVariants.{At}
 
 module _ (t : List ℕ) (k v : ℕ) (fits : 8 * k + 8 ≤ length t) where
   within : 8 * k + length (le 8 v) ≤ length t
@@ -144,7 +144,7 @@ walk_right t c k least left sound lo hi own e other =
     (less_or (node t (2 * k + 1)) (node t (2 * k)))
 
 pub walk_ends : (t : List ℕ) (c k limit least : ℕ) → Sound t c → c ≤ k → k < 2 * c → node t k ≡ least → least ≡ node t 1 → least ≤ limit
-    → LeastDue t c limit (At (k - c))
+    → LeastDue t c limit (Some (k - c))
 walk_ends t c k limit least sound lo hi own root due =
     let e : c + (k - c) ≡ k = omega arith in
     (omega arith, omega (arith, ap (node t) e), λ j h. omega (arith, ap (node t) e, root_least t c sound (c + j) (omega arith) (omega arith)))

@@ -1,8 +1,6 @@
 -- The expiry queue: a tournament tree of least due times, its nodes eight bytes each. Leaf i, node c + i, is slot i's due time.
-use Rattle.std.specs.Prelude.{ℕ, ◌+◌, ◌-◌, ◌*◌, ◌^◌, ◌≤◌, ◌<◌, min, ◌≡◌, List, length}
+use Rattle.std.specs.Prelude.{ℕ, ◌+◌, ◌-◌, ◌*◌, ◌^◌, ◌≤◌, ◌<◌, min, ◌≡◌, List, length, None, Option, Some}
 use Rattle.memory.specs.Bytes.{num, le, part, patch}
-use Rattle.queue.specs.declared.Found.{Found}
-use Rattle.queue.specs.declared.Found.TheVariants.{At, Nothing}
 
 unfoldable pub node : List ℕ → ℕ → ℕ
 node t k = num (part t (8 * k) 8)
@@ -26,9 +24,9 @@ pub record DueSet (c slot due : ℕ) (t t' : List ℕ) : Type 0 where
   pub spare : node t' 0 ≡ node t 0
 
 -- a slot with the least due time where that is at most limit, and nothing where every due time is later
-abbrev pub LeastDue : List ℕ → ℕ → ℕ → Found → Type 0
-LeastDue t c limit (At i) = (i < c) × (node t (c + i) ≤ limit) × ((j : ℕ) → j < c → node t (c + i) ≤ node t (c + j))
-LeastDue t c limit Nothing = (j : ℕ) → j < c → limit < node t (c + j)
+abbrev pub LeastDue : List ℕ → ℕ → ℕ → Option ℕ → Type 0
+LeastDue t c limit (Some i) = (i < c) × (node t (c + i) ≤ limit) × ((j : ℕ) → j < c → node t (c + i) ≤ node t (c + j))
+LeastDue t c limit None = (j : ℕ) → j < c → limit < node t (c + j)
 
 -- t' is t with node k the lesser of its children
 pub record Refreshed (k : ℕ) (t t' : List ℕ) : Type 0 where

@@ -1,10 +1,9 @@
 -- How many turns the queue's loops take: one for each node from a leaf's parent up to the root, or down to a leaf, and so at most log₂ of the
 -- capacity. `set_due` and `first_due` are proved to end with these numbers as the measure that each turn lowers. Assumes nothing.
 use Rattle.std.specs.Prelude.{ℕ, zero, suc, ◌+◌, ◌-◌, ◌*◌, ◌/◌, ◌^◌, ◌≤◌, ◌<◌, ◌≡◌, refl}
-use Rattle.std.proofs.Common.{ap, ◌∙◌, ⊎_elim, arith}
+use Rattle.std.proofs.Common.{ap, arith}
 use Rattle.std.proofs.Math.Nat.{pow-succ'}
 use Rattle.std.proofs.Math.Arith.{bin_ind}
-use Rattle.memory.proofs.Laws.{less_or}
 
 -- how often k can be halved before it is 0, at most n times
 unfoldable pub turns_in : ℕ → ℕ → ℕ

@@ -1,10 +1,12 @@
 -- Input in pieces: what was read and is not used yet is a part of a window. No byte of it is lost when more is read.
-use Rattle.std.specs.Prelude.{ℕ, zero, suc, ◌+◌, ◌-◌, ◌≤◌, ◌<◌, min, ◌≡◌, refl, List, ◌∷◌, Bool, true, false, length, take, drop, set, get_or, Result, Ok, Err, ℤ, pos, negsuc}
-use Rattle.std.proofs.Common.{sym, ap, ◌∙◌, arith, add-one, ltb-true, ltb-false, length-set, length-drop, take-suc, take-suc-set, drop-cons, drop-set-lt, get_or-drop}
+use Rattle.std.specs.Prelude.{ℕ, zero, suc, ◌+◌, ◌-◌, ◌≤◌, ◌<◌, min, ◌≡◌, refl, List, Bool, true, false, length, take, drop, Result, Ok, Err, ℤ, pos, negsuc}
+use Rattle.std.proofs.Common.{ap, ◌∙◌, arith, ltb-true, ltb-false, length-drop}
 use Rattle.std.specs.Int.Signed.{lt_z}
+use Rattle.std.specs.List.{copy_within}
 use Rattle.std.specs.Result.{result_unwrap_or}
 use Rattle.std.specs.Io.{ReadsAtMost}
 use Rattle.std.proofs.Math.Seq.{take-take}
+use Rattle.std.proofs.lemmas.List.Edits.{take-paste}
 use Rattle.replay.specs.declared.input.Input.{Input}
 use Rattle.replay.specs.declared.input.Source.{Source}
 
@@ -53,43 +55,15 @@ pub record AtFront (window : List ℕ) (at n : ℕ) (after : List ℕ) : Type 0 
   pub size : length after ≡ length window
   pub front : take n after ≡ take n (drop at window)
 
--- the same, while the bytes from at + n on are still to be moved
-pub record Moving (window : List ℕ) (at n : ℕ) (after : List ℕ) : Type 0 where
-  pub size : length after ≡ length window
-  pub front : take n after ≡ take n (drop at window)
-  pub rest : drop (at + n) after ≡ drop (at + n) window
-
--- the loop that moves them: it begins, goes on, ends
-pub move_begins : (window : List ℕ) (at : ℕ) → Moving window at 0 window
-move_begins window at = record { size = refl; front = refl; rest = refl }
-
-module _ (window after : List ℕ) (at n : ℕ) (h : at + n < length window) (m : Moving window at n after) where
-  -- the byte that is moved, and those behind it, are still as they were
-  still : (get_or after (at + n) 0 ∷ drop (suc (at + n)) after) ≡ get_or window (at + n) 0 ∷ drop (suc (at + n)) window
-  still = sym (drop-cons after (at + n) 0 (rw m.size h)) ∙ m.rest ∙ drop-cons window (at + n) 0 h
-
-  same_byte : get_or after (at + n) 0 ≡ get_or (drop at window) n 0
-  same_byte = let e = still in let k = get_or-drop at window n 0 in cc
-
-  same_rest : drop (suc (at + n)) after ≡ drop (suc (at + n)) window
-  same_rest = let e = still in cc
-
-  pub move_goes_on : Moving window at (n + 1) (set after n (get_or after (at + n) 0))
-  move_goes_on =
-      let fits : n < length after = rw m.size (omega arith) in
-      let left : n < length (drop at window) = rw length-drop (omega arith) in
-      let next : at + (n + 1) ≡ suc (at + n) = omega arith in
-      let moved : List ℕ = set after n (get_or after (at + n) 0) in
-      let taken : take (suc n) moved ≡ take (suc n) (drop at window)
-      = take-suc-set after n (get_or after (at + n) 0) fits ∙ rw (m.front, same_byte) (sym (take-suc (drop at window) n 0 left)) in
-      record {
-        size = length-set after n (get_or after (at + n) 0) ∙ m.size;
-        front = rw add-one taken;
-        rest = rw next (drop-set-lt (suc (at + n)) after n (get_or after (at + n) 0) (omega arith) ∙ same_rest);
-      }
-
-pub move_ends : (window after : List ℕ) (at n count : ℕ) → n ≡ count → Moving window at n after → AtFront window at count after
-move_ends window after at n count e m = record { size = m.size; front = rw (← e) m.front }
+-- the unused bytes, copied to the front
+pub moved_to_front : (window after : List ℕ) (at end : ℕ) → at ≤ end → end ≤ length window → length after ≡ length window → after ≡ copy_within window at end 0
+    → AtFront window at (end - at) after
+moved_to_front window after at end h within size e =
+    let left : end - at ≤ length (drop at window) = rw length-drop (omega arith) in
+    let same : end - at ≡ 0 + (end - at) = omega arith in
+    let front : take (end - at) (copy_within window at end 0) ≡ take (end - at) (drop at window)
+    = ap (λ (n : ℕ). take n (copy_within window at end 0)) same ∙ take-paste window 0 (drop at window) (end - at) (omega arith) left in
+    record { size = size; front = rw e front }
 
 -- more was read once: the unused bytes stand at the front, what came behind them
 pub record Refilled (before : Input) (window : List ℕ) (i : Input) (after : List ℕ) : Type 0 where

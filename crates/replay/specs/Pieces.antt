@@ -3,7 +3,7 @@
 use Rattle.std.specs.Prelude.{ℕ, suc, ◌-◌, ◌^◌, ◌≤◌, ◌<◌, ◌≡◌, refl, List, [], ◌∷◌, ◌++◌, length, drop}
 use Rattle.std.proofs.Common.{sym, ap, ◌∙◌, append_assoc, arith, length-append, length-drop}
 use Rattle.std.proofs.lemmas.List.{drop-append-le}
-use Rattle.forms.specs.Form.{Form, Read, got, short, refused, and_then}
+use Rattle.forms.specs.Form.{Form, Read, got, and_then}
 use Rattle.forms.specs.Number.{number, number_ends, number_writes, number_below}
 use Rattle.forms.specs.At.{placed_front}
 use Rattle.forms.specs.Length.{number_at_most}
@@ -12,8 +12,10 @@ use Rattle.forms.specs.Theorems.{Beginning, short_only, number_was_written}
 use Rattle.wire.specs.PacketForm.{packet}
 use Rattle.wire.specs.PacketTheorems.{packet_ends}
 use Rattle.replay.specs.Head.{head_of, behind_timeout, with_timeout}
+use Rattle.forms.specs.Form.{stop}
+use Rattle.forms.specs.declared.stop.Stop.{Stop}
 
-module _ {A : Type 0} (f : Form A) (ends : f.read [] ≡ short) where
+module _ {A : Type 0} (f : Form A) (ends : f.read [] ≡ stop Stop.Short) where
   -- the answer, by what reading the bytes finds
   by_read : (b : ℕ) (s : List ℕ) (r : Read A (List ℕ)) → f.read (b ∷ s) ≡ r
       → read_one 4 f (b ∷ s) ≡ answered 4 (and_then r (λ a rest. got a (length (b ∷ s) - length rest)))
@@ -31,8 +33,8 @@ module _ {A : Type 0} (f : Form A) (ends : f.read [] ≡ short) where
           let more : f.read ((b ∷ s) ++ t) ≡ got a (rest ++ t) = ap f.read apart ∙ f.there a (rest ++ t) v in
           let size : length ((b ∷ s) ++ t) - length (rest ++ t) ≡ length (b ∷ s) - length rest = omega (arith, length-append (b ∷ s) t, length-append rest t) in
           by_read b (s ++ t) (got a (rest ++ t)) more ∙ ap (λ (n : ℕ). value a n) size ∙ sym (by_read b s (got a rest) q)
-      go short q = absurd (whole (short_only 4 f ends (λ e. omega arith) (b ∷ s) (by_read b s short q)))
-      go refused q = by_read b (s ++ t) refused (f.stays (b ∷ s) t q) ∙ sym (by_read b s refused q)
+      go (stop Stop.Short) q = absurd (whole (short_only 4 f ends (λ e. omega arith) (b ∷ s) (by_read b s (stop Stop.Short) q)))
+      go (stop Stop.Refused) q = by_read b (s ++ t) (stop Stop.Refused) (f.stays (b ∷ s) t q) ∙ sym (by_read b s (stop Stop.Refused) q)
 
 -- of packets: only one that is cut off may be read otherwise once more bytes are there
 pub packet_settled : (s t : List ℕ) → (s ≡ [] → ⊥) → (Beginning packet s → ⊥) → read_one 4 packet (s ++ t) ≡ read_one 4 packet s

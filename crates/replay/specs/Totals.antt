@@ -1,7 +1,6 @@
 -- The last line's numbers: packets taken, records finished, clean closes. Each is held at the largest 64-bit number.
-use Rattle.std.specs.Prelude.{ℕ, ◌+◌, ◌-◌, ◌^◌, min, ◌≡◌}
+use Rattle.std.specs.Prelude.{ℕ, ◌+◌, ◌-◌, ◌^◌, min, ◌≡◌, None, Option, Some}
 use Rattle.flow.specs.declared.record.FlowRecord.{FlowRecord}
-use Rattle.flow.specs.declared.time.OptEndReason.{OptEndReason}
 use Rattle.flow.specs.declared.time.EndReason.{EndReason}
 use Rattle.replay.specs.declared.output.Totals.{Totals}
 
@@ -17,13 +16,13 @@ with_packets t n = record { packets = min (t.packets + n) (2 ^ 64 - 1); records 
 abbrev pub with_record : Totals → ℕ → Totals
 with_record t closes = record { packets = t.packets; records = min (t.records + 1) (2 ^ 64 - 1); clean = min (t.clean + closes) (2 ^ 64 - 1) }
 
--- "clean closes (reason Fin)"
-abbrev pub closes_by : OptEndReason → ℕ
-closes_by (OptEndReason.Present EndReason.Fin) = 1
-closes_by (OptEndReason.Present EndReason.IdleTimeout) = 0
-closes_by (OptEndReason.Present EndReason.Rst) = 0
-closes_by (OptEndReason.Present EndReason.CaptureEnd) = 0
-closes_by OptEndReason.Absent = 0
+-- clean closes: reason Fin
+abbrev pub closes_by : Option EndReason → ℕ
+closes_by (Some EndReason.Fin) = 1
+closes_by (Some EndReason.IdleTimeout) = 0
+closes_by (Some EndReason.Rst) = 0
+closes_by (Some EndReason.CaptureEnd) = 0
+closes_by None = 0
 
 -- the clean closes that a record is: one, or none
 abbrev pub clean_closes : FlowRecord → ℕ

@@ -1,93 +1,69 @@
-// A run of the engine: opened with the settings, fed to the end of the input, and drained.
+//! A run of the engine: opened with the settings, fed to the end of the input, and drained.
 ghost use Rattle.std.specs.Prelude.{◌≡◌, ◌≤◌};
 ghost use Rattle.replay.specs.Input.{Inside};
 ghost use Rattle.replay.specs.Head.{HeadThere, lacks_head};
 
+use crate::CAPACITY;
+use crate::failure::Failure;
 use crate::feed::{Run, Stage, feed_all};
-use crate::head::{Head, MOST_BYTES, Settings, read_head};
-use crate::input::{Input, is_failed, is_going, read_more, unused};
-use crate::lines::{complain_of_input, complain_of_output, print_refusal, print_total};
+use crate::head::{MOST_BYTES, Settings, read_head};
+use crate::input::{Input, read_more, unused};
+use crate::lines::{print_refusal, print_total};
 use crate::output::{Totals, print_records};
-use crate::{CAPACITY, Streams};
-use listing::fields::part;
-use state::opening::Opening;
-use std::io::Stdin;
-use std::process::ExitCode;
+use forms::refusal::Refusal;
+use std::io::{Stdin, Stdout};
 
-// Hands out the open flows, and prints the total. The status says whether the run came to its end.
-fn hand_out(streams: Streams, state: &mut [u8], output: &mut [u8], totals: Totals) -> ExitCode {
-    let answer = engine::drain(state, output);
-    let printed = print_records(
-        streams.stdout,
-        part(output, 0, answer.bytes),
-        answer.records,
-        totals,
-    );
-    let all = printed.totals;
-    if printed.well {
-        if print_total(streams.stdout, all) {
-            return ExitCode::SUCCESS;
-        }
-    }
-    complain_of_output(streams.stderr)
-}
-
-fn hand_out_refused(
-    streams: Streams,
+// Hands out the open flows, and prints the total. A state that cannot be drained hands out none.
+fn hand_out(
+    stdout: Stdout,
     state: &mut [u8],
     output: &mut [u8],
-    totals: Totals,
-    refusal: u8,
-) -> ExitCode {
-    if print_refusal(streams.stdout, refusal, totals.packets) {
-        hand_out(streams, state, output, totals)
-    } else {
-        complain_of_output(streams.stderr)
+    mut totals: Totals,
+) -> Result<(), Failure> {
+    if let Ok(handed) = engine::drain(state, output) {
+        totals = print_records(stdout, output, handed.records, handed.bytes, totals)?;
     }
+    print_total(stdout, totals)
 }
 
 // A run that was broken off has no total.
-fn finish(streams: Streams, state: &mut [u8], output: &mut [u8], run: Run) -> ExitCode {
-    let totals = run.totals;
-    let stage = run.stage;
-    match stage {
-        Stage::Feeding => hand_out(streams, state, output, totals),
-        Stage::Over => hand_out(streams, state, output, totals),
-        Stage::Refused(refusal) => hand_out_refused(streams, state, output, totals, refusal),
-        Stage::Unread => complain_of_input(streams.stderr),
-        Stage::Unwritten => complain_of_output(streams.stderr),
+fn finish(stdout: Stdout, state: &mut [u8], output: &mut [u8], run: Run) -> Result<(), Failure> {
+    match run.stage {
+        Stage::Feeding | Stage::Over => {}
+        Stage::Refused(refusal) => print_refusal(stdout, refusal, run.totals.packets)?,
+        Stage::Unread => return Err(Failure::Unread),
     }
+    hand_out(stdout, state, output, run.totals)
 }
 
 // No engine was opened.
-fn refuse(streams: Streams, refusal: u8) -> ExitCode {
-    if print_refusal(streams.stdout, refusal, 0) {
-        if print_total(streams.stdout, Totals::new()) {
-            return ExitCode::SUCCESS;
-        }
-    }
-    complain_of_output(streams.stderr)
+fn refuse(stdout: Stdout, refusal: Refusal) -> Result<(), Failure> {
+    print_refusal(stdout, refusal, 0)?;
+    print_total(stdout, Totals::new())
 }
 
 fn replay_packets(
-    streams: Streams,
+    stdin: Stdin,
+    stdout: Stdout,
     state: &mut [u8],
     window: &mut [u8],
     output: &mut [u8],
     input: Input,
     settings: Settings,
-) -> ExitCode
+) -> Result<(), Failure>
     requires { Inside input window.old }
 {
-    let timeout = settings.timeout;
-    let resolution = settings.resolution;
-    match engine::open(state, CAPACITY as u64, timeout, resolution) {
-        Opening::Opened => {
-            let run = feed_all(streams, state, window, output, input);
-            finish(streams, state, output, run)
+    match engine::open(
+        state,
+        CAPACITY as u64,
+        settings.timeout,
+        settings.resolution,
+    ) {
+        Ok(()) => {
+            let run = feed_all(stdin, stdout, state, window, output, input)?;
+            finish(stdout, state, output, run)
         }
-        Opening::Capacity => refuse(streams, 1),
-        Opening::Memory => refuse(streams, 2),
+        Err(refusal) => refuse(stdout, refusal),
     }
 }
 
@@ -96,39 +72,42 @@ fn lacks_head(input: Input) -> bool
     requires { input.at ≤ input.end }
     ensures { result ≡ lacks_head input }
 {
-    let source = input.source;
-    is_going(source) & (input.end - input.at < MOST_BYTES)
+    input.source.is_going() && input.end - input.at < MOST_BYTES
 }
 
 // Reads until the first two numbers are there, or the input is over. Each turn brings a byte at least, or the end.
+#[tactic(auto, using(crate::specs::Input::nothing_inside, crate::specs::Head::reach_begins, crate::specs::Head::reach_goes_on, crate::specs::Head::reach_ends, crate::specs::Head::reach_ends_early))]
 fn read_to_head(stdin: Stdin, window: &mut [u8]) -> Input
     ensures { HeadThere result window.new }
 {
     let mut input = Input::new();
-    let mut turns = MOST_BYTES;
-    while 0 < turns && lacks_head(input) {
+    for _ in 0..MOST_BYTES {
+        if !lacks_head(input) {
+            break;
+        }
         input = read_more(stdin, window, input);
-        turns -= 1;
     }
     input
 }
 
+/// Replays the packets of standard input.
+#[tactic(auto, using(crate::specs::Input::used_inside))]
 pub fn replay(
-    streams: Streams,
+    stdin: Stdin,
+    stdout: Stdout,
     state: &mut [u8],
     window: &mut [u8],
     output: &mut [u8],
-) -> ExitCode {
-    let input = read_to_head(streams.stdin, window);
-    let source = input.source;
-    if is_failed(source) {
-        return complain_of_input(streams.stderr);
+) -> Result<(), Failure> {
+    let input = read_to_head(stdin, window);
+    if input.source.is_failed() {
+        return Err(Failure::Unread);
     }
     match read_head(unused(window, input)) {
-        Head::Settings(settings) => {
+        Ok(settings) => {
             let packets = input.used(settings.length);
-            replay_packets(streams, state, window, output, packets, settings)
+            replay_packets(stdin, stdout, state, window, output, packets, settings)
         }
-        Head::Refused(refusal) => refuse(streams, refusal),
+        Err(refusal) => refuse(stdout, refusal),
     }
 }

@@ -1,10 +1,9 @@
 -- What one packet, a batch, a sweep and a drain do to the ledger: nothing is lost, nothing counted twice, and the numbers of
 -- each flow's packets ascend. Assumes nothing.
-use Rattle.std.specs.Prelude.{◌≡◌, Bool, true, false, not, cond, ◌&&◌, ℕ, suc, ◌+◌, ◌-◌, ◌≤◌, eqb, leb, take}
+use Rattle.std.specs.Prelude.{◌≡◌, Bool, true, false, not, cond, ◌&&◌, ℕ, suc, ◌+◌, ◌-◌, ◌≤◌, eqb, leb, take, None, Option, Some}
 use Rattle.std.proofs.Math.Path.{refl, subst}
 use Rattle.std.proofs.Common.{ap, ◌∙◌, eqb-true}
 use mathlib.Core.List.{List, [], ◌∷◌, ◌++◌, map}
-use Rattle.std.proofs.Math.Option.{Option, none, some}
 use native.Mathlib.Omega.{arith}
 use Rattle.rules.specs.Order.{equal, sort, those}
 use Rattle.rules.specs.Totals.{total, All, either, total_append, total_insert, total_sort, total_those, total_map, all_append, all_insert, all_sort, all_those, all_map, all_more}
@@ -40,25 +39,25 @@ module _ (W : Terms) where
   under_is k (f ∷ fs) = go (equal k (R.by_key W f)) refl (R.under W k fs) (under_is k fs)
     where
       go : (b : Bool) → equal k (R.by_key W f) ≡ b → (o : Option (R.Flow W)) → Any W (Under W k fs) o
-          → Any W (λ g. (k ≡ R.by_key W g) × ((m : R.Flow W → ℕ) → m g + total m (cond b fs (f ∷ R.without W k fs)) ≡ m f + total m fs)) (cond b (some f) o)
+          → Any W (λ g. (k ≡ R.by_key W g) × ((m : R.Flow W → ℕ) → m g + total m (cond b fs (f ∷ R.without W k fs)) ≡ m f + total m fs)) (cond b (Some f) o)
       go true e o h = (equal_true k (R.by_key W f) e, λ m. refl)
-      go false e none h = tt
-      go false e (some g) h = (h.0, λ m. omega (arith, h.1 m))
+      go false e None h = tt
+      go false e (Some g) h = (h.0, λ m. omega (arith, h.1 m))
 
   pub inside_under : (k : List ℕ) (l : List (R.Flow W)) → Any W (Inside W l) (R.under W k l)
   inside_under k l = go (R.under W k l) (under_is k l)
     where
       go : (o : Option (R.Flow W)) → Any W (Under W k l) o → Any W (Inside W l) o
-      go none h = tt
-      go (some f) h = λ m. subst (λ (b : List ℕ). m f + total m (R.without W b l) ≡ total m l) h.0 (h.1 m)
+      go None h = tt
+      go (Some f) h = λ m. subst (λ (b : List ℕ). m f + total m (R.without W b l) ≡ total m l) h.0 (h.1 m)
 
   any-if_closed : (P : R.Flow W → Type 0) (o : Option (R.Flow W)) → Any W P o → Any W P (R.if_closed W o)
-  any-if_closed P none h = tt
-  any-if_closed P (some f) h = either (Any W P) (W.closed f.held) h tt
+  any-if_closed P None h = tt
+  any-if_closed P (Some f) h = either (Any W P) (W.closed f.held) h tt
 
   any-or_else : (P : R.Flow W → Type 0) (o q : Option (R.Flow W)) → Any W P o → Any W P q → Any W P (R.or_else W o q)
-  any-or_else P none q h k = k
-  any-or_else P (some f) q h k = h
+  any-or_else P None q h k = k
+  any-or_else P (Some f) q h k = h
 
   pub any_reused : (P : R.Flow W → Type 0) (p : W.Packet) (l : List (R.Flow W)) → ((k : List ℕ) → Any W P (R.under W k l)) → Any W P (R.reused W p l)
   any_reused P p l h =
@@ -69,10 +68,10 @@ module _ (W : Terms) where
       tt
 
   any_chosen : (P : R.Flow W → Type 0) (o : Option (R.Flow W)) (a : Bool) (q : Option (R.Flow W)) → Any W P o → Any W P q → Taking W P (R.chosen W o a q)
-  any_chosen P (some f) a q h k = h
-  any_chosen P none true q h k = tt
-  any_chosen P none false (some g) h k = k
-  any_chosen P none false none h k = tt
+  any_chosen P (Some f) a q h k = h
+  any_chosen P None true q h k = tt
+  any_chosen P None false (Some g) h k = k
+  any_chosen P None false None h k = tt
 
   any_taker : (P : R.Flow W → Type 0) (p : W.Packet) (l : List (R.Flow W)) → ((k : List ℕ) → Any W P (R.under W k l)) → Taking W P (R.taker W p l)
   any_taker P p l h =
@@ -86,8 +85,8 @@ module _ (W : Terms) where
 
   module _ (m : M.Packet → ℕ) where
     abbrev of_option : Option (R.Flow M) → ℕ
-    of_option none = 0
-    of_option (some f) = of_flow W m f
+    of_option None = 0
+    of_option (Some f) = of_flow W m f
 
     abbrev of_taker : R.Taker M → ℕ
     of_taker (R.old d f) = of_flow W m f
@@ -98,22 +97,22 @@ module _ (W : Terms) where
     taking_total s p R.new = omega arith
 
     apart_total : (o : Option (R.Flow M)) (l : List (R.Flow M)) → Any M (Inside M l) o → of_option o + total (of_flow W m) (R.apart M o l) ≡ total (of_flow W m) l
-    apart_total none l h = omega arith
-    apart_total (some f) l h = h (of_flow W m)
+    apart_total None l h = omega arith
+    apart_total (Some f) l h = h (of_flow W m)
 
     beside_total : (t : R.Taker M) (l : List (R.Flow M)) → Taking M (Inside M l) t → of_taker t + total (of_flow W m) (R.beside M t l) ≡ total (of_flow W m) l
     beside_total (R.old d f) l h = h (of_flow W m)
     beside_total R.new l h = omega arith
 
     ended_total : (r : EndReason) (o : Option (R.Flow M)) → total (of_finished W m) (R.ended M r o) ≡ of_option o
-    ended_total r none = refl
-    ended_total r (some f) = omega arith
+    ended_total r None = refl
+    ended_total r (Some f) = omega arith
 
     -- the flow that took the packet stays, or ends
     kept_total : (r : Option EndReason) (f : R.Flow M) (l : List (R.Flow M))
         → total (of_flow W m) (R.keeping M r f l) + total (of_finished W m) (R.ended_for M r f) ≡ of_flow W m f + total (of_flow W m) l
-    kept_total none f l = omega (arith, total_insert (of_flow W m) (R.by_key M) f l)
-    kept_total (some r) f l = omega arith
+    kept_total None f l = omega (arith, total_insert (of_flow W m) (R.by_key M) f l)
+    kept_total (Some r) f l = omega arith
 
     swept_total : (s : Settings) (w : ℕ) (l : List (R.Flow M)) → total (of_finished W m) (R.swept M s w l) + total (of_flow W m) (R.staying M s w l) ≡ total (of_flow W m) l
     swept_total s w l =
@@ -209,16 +208,16 @@ module _ (W : Terms) (P : R.Flow W → Type 0) where
   any_under (f ∷ fs) a k = either (Any W P) (equal k (R.by_key W f)) a.0 (any_under fs a.1 k)
 
   all_apart : (o : Option (R.Flow W)) (l : List (R.Flow W)) → All P l → All P (R.apart W o l)
-  all_apart none l a = a
-  all_apart (some f) l a = all_without (R.by_key W f) l a
+  all_apart None l a = a
+  all_apart (Some f) l a = all_without (R.by_key W f) l a
 
   all_beside : (t : R.Taker W) (l : List (R.Flow W)) → All P l → All P (R.beside W t l)
   all_beside (R.old d f) l a = all_without (R.by_key W f) l a
   all_beside R.new l a = a
 
   all_keeping : (r : Option EndReason) (f : R.Flow W) (l : List (R.Flow W)) → P f → All P l → All P (R.keeping W r f l)
-  all_keeping none f l p a = all_insert P (R.by_key W) f l p a
-  all_keeping (some r) f l p a = a
+  all_keeping None f l p a = all_insert P (R.by_key W) f l p a
+  all_keeping (Some r) f l p a = a
 
 module _ (W : Terms) where
   abbrev N : Terms
@@ -253,12 +252,12 @@ module _ (W : Terms) where
   taking_below s p R.new h = omega arith
 
   ended_below : (n : ℕ) (r : EndReason) (o : Option (R.Flow N)) → Any N (FlowBelow W n) o → All (FinishedBelow W n) (R.ended N r o)
-  ended_below n r none h = tt
-  ended_below n r (some f) h = (h, tt)
+  ended_below n r None h = tt
+  ended_below n r (Some f) h = (h, tt)
 
   ended_for-below : (n : ℕ) (r : Option EndReason) (f : R.Flow N) → FlowBelow W n f → All (FinishedBelow W n) (R.ended_for N r f)
-  ended_for-below n none f h = tt
-  ended_for-below n (some r) f h = (h, tt)
+  ended_for-below n None f h = tt
+  ended_for-below n (Some r) f h = (h, tt)
 
   steps34_below : (s : Settings) (w : ℕ) (out : List (R.Finished N)) (g : Option (R.Flow N)) (p : N.Packet) (l : List (R.Flow N)) (t : R.Taker N)
       → All (FinishedBelow W p.number) out → Any N (FlowBelow W p.number) g → All (FlowBelow W p.number) l → Taking N (FlowBelow W p.number) t

@@ -1,10 +1,9 @@
 -- The mission's third demand over any terms, through any calls from fresh: `demand`, at the end. EngineDemandLaws.antt has it of the
 -- engine. Assumes nothing.
-use Rattle.std.specs.Prelude.{◌≡◌, Bool, true, false, cond, ◌⊎◌, ℕ, suc, zero, ◌+◌, ◌-◌, ◌≤◌, ◌<◌, max, eqb, leb, length, take}
+use Rattle.std.specs.Prelude.{◌≡◌, Bool, true, false, cond, ◌⊎◌, ℕ, suc, zero, ◌+◌, ◌-◌, ◌≤◌, ◌<◌, max, eqb, leb, length, take, None, Option, Some}
 use Rattle.std.proofs.Math.Path.{refl, ap, subst⁻¹, fun_ext}
 use Rattle.std.proofs.Common.{sym, ◌∙◌, subst, inl, inr, arith, length-append, eq-eqb, ne_eqb, eqb-true}
 use mathlib.Core.List.{List, [], ◌∷◌, ◌++◌, map, append_assoc}
-use Rattle.std.proofs.Math.Option.{Option, none, some}
 use Rattle.std.proofs.lemmas.Bool.{eqb-false}
 use Rattle.rules.specs.Order.{at_most, insert, sort, those}
 use Rattle.rules.specs.Totals.{total, All, either, total_append, total_map, all_append}
@@ -281,12 +280,12 @@ module _ (W : Terms) where
 
   at_most_one : (g : Option (R.Flow W)) (p : W.Packet) (t : R.Taker W) (f : R.Flow W)
       → length (R.ended W Fin g ++ R.ended_for W (R.ending W g p t) f) ≤ 1
-  at_most_one (some g) p t f = omega arith
-  at_most_one none p t f = go (R.ending W none p t)
+  at_most_one (Some g) p t f = omega arith
+  at_most_one None p t f = go (R.ending W None p t)
     where
       go : (r : Option EndReason) → length (R.ended_for W r f) ≤ 1
-      go none = omega arith
-      go (some r) = omega arith
+      go None = omega arith
+      go (Some r) = omega arith
 
   packet_hands : (s : Settings) (room : ℕ) (p : W.Packet) (e : R.Engine W)
       → HandsOut W (R.swept W s (R.clock_at W s e.clock (W.time p)) e.flows) (R.one_packet W s room p e)
@@ -314,8 +313,8 @@ module _ (W : Terms) where
 
   kept_placed : (r : Option EndReason) (f : R.Flow K) (l : List (R.Flow K)) (out : List (R.Finished K))
       → In f (R.keeping K r f l) ⊎ ((x : EndReason) × In (R.finish K x f) (out ++ R.ended_for K r f))
-  kept_placed none f l out = inl (in_insert (R.by_key K) f l)
-  kept_placed (some r) f l out = inr (r, (out, [], refl))
+  kept_placed None f l out = inl (in_insert (R.by_key K) f l)
+  kept_placed (Some r) f l out = inr (r, (out, [], refl))
 
   packet_placed : (s : Settings) (room : ℕ) (p : K.Packet) (e : R.Engine K) → Placed W (R.taking K s p (named_taker W s p e)) (R.one_packet K s room p e)
   unfolding R.one_packet

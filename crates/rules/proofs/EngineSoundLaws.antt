@@ -1,8 +1,7 @@
 -- No call turns a sound state of the engine unsound; every record handed out is a sound record in range; room for (capacity + 1) × 358
 -- bytes suffices for one packet; and from a fresh engine step 1 never finds a closed association. Assumes nothing.
-use Rattle.std.specs.Prelude.{◌≡◌, refl, true, not, cond, List, map, ℕ, ◌+◌, ◌*◌, ◌≤◌, leb, take}
+use Rattle.std.specs.Prelude.{◌≡◌, refl, true, not, cond, List, map, ℕ, ◌+◌, ◌*◌, ◌≤◌, leb, take, None, Option, Some}
 use Rattle.std.proofs.Common.{sym, ap, ◌∙◌, arith, eq-eqb}
-use Rattle.std.proofs.Math.Option.{Option, none, some}
 use Rattle.key.specs.KeyTheorems.{KeyInRange, equal_bytes}
 use Rattle.flow.specs.SoundKept.{closing_is_sound}
 use Rattle.wire.specs.declared.packet.Packet.{Packet}
@@ -92,26 +91,26 @@ run_made s calls ok =
 
 -- a flow under the bytes of an association's key, or of its reverse, has not seen both FINs
 unclosed : (k : List ℕ) → ((f : Flow engine) → KeyInRange f.name → k ≡ key_bytes f.name → is_association f.name ≡ true)
-    → (fs : List (Flow engine)) → All (λ f. MadeFlow f.name f.held) fs → if_closed engine (under engine k fs) ≡ none
+    → (fs : List (Flow engine)) → All (λ f. MadeFlow f.name f.held) fs → if_closed engine (under engine k fs) ≡ None
 unclosed k kind fs a = go (under engine k fs) (under_is engine k fs) (any_under engine (λ f. MadeFlow f.name f.held) fs a k)
   where
     go : (o : Option (Flow engine)) → Any engine (Under engine k fs) o → Any engine (λ f. MadeFlow f.name f.held) o
-        → if_closed engine o ≡ none
-    go none u m = refl
-    go (some f) u m = rw (never_closed f.name f.held m (kind f m.flow.key u.0))
+        → if_closed engine o ≡ None
+    go None u m = refl
+    go (Some f) u m = rw (never_closed f.name f.held m (kind f m.flow.key u.0))
 
 -- step 1 never finds a closed flow for an association's packet, neither under its key nor under the reversed key
 pub association_never_reused : (p : Packet) → PacketInRange p → is_association p.key ≡ true → (fs : List (Flow engine)) → All (λ f. MadeFlow f.name f.held) fs
-    → reused engine p fs ≡ none
+    → reused engine p fs ≡ None
 association_never_reused p ok e fs a =
     let own = unclosed (key_of engine p) (λ f r same. ap is_association (sym (equal_bytes p.key f.name ok.key r same)) ∙ e) fs a in
     let turned = unclosed (reversed_of engine p) (λ f r same. sym (engine_keys.kind p.key f.name ok.key r same) ∙ e) fs a in
-    ap (λ (o : Option (Flow engine)). cond (engine.syn p) (or_else engine o (if_closed engine (under engine (reversed_of engine p) fs))) none) own
-    ∙ ap (λ (o : Option (Flow engine)). cond (engine.syn p) o none) turned ∙ either (λ (o : Option (Flow engine)). o ≡ none) (engine.syn p) refl refl
+    ap (λ (o : Option (Flow engine)). cond (engine.syn p) (or_else engine o (if_closed engine (under engine (reversed_of engine p) fs))) None) own
+    ∙ ap (λ (o : Option (Flow engine)). cond (engine.syn p) o None) turned ∙ either (λ (o : Option (Flow engine)). o ≡ None) (engine.syn p) refl refl
 
 -- .. through any calls from a fresh engine
 pub associations_never_reused : (s : Settings) (calls : List (Call Packet)) → FedInRange PacketInRange calls → (p : Packet) → PacketInRange p → is_association p.key ≡ true
-    → (w : ℕ) → reused engine p (staying engine s w (run engine s calls (started engine)).engine.flows) ≡ none
+    → (w : ℕ) → reused engine p (staying engine s w (run engine s calls (started engine)).engine.flows) ≡ None
 associations_never_reused s calls ok p fits e w =
     let fs = (run engine s calls (started engine)).engine.flows in
     association_never_reused p fits e (staying engine s w fs)

@@ -1,9 +1,7 @@
 -- The engine's own terms meet what the third demand and soundness ask of terms. Assumes nothing.
-use Rattle.std.specs.Prelude.{◌≡◌, refl, Bool, true, false, not, ◌&&◌, List, [], ◌∷◌, ◌++◌, ℕ, ◌^◌, ◌<◌, ◌≤◌}
+use Rattle.std.specs.Prelude.{◌≡◌, refl, Bool, true, false, not, ◌&&◌, List, [], ◌∷◌, ◌++◌, ℕ, ◌^◌, ◌<◌, ◌≤◌, None, Option, Some}
 use Rattle.std.proofs.Common.{sym, ap, ◌∙◌, append_assoc, arith}
 use Rattle.forms.specs.Optional.{number8, number16}
-use Rattle.forms.specs.declared.optional.OptU8.{OptU8}
-use Rattle.forms.specs.declared.optional.OptU16.{OptU16}
 use Rattle.key.specs.Key.{reversed_key, reversed_twice, reversal_both}
 use Rattle.key.specs.KeyTheorems.{KeyInRange, EndpointsInRange, equal_bytes}
 use Rattle.key.specs.Endpoints.{reversed_endpoints}
@@ -11,11 +9,9 @@ use Rattle.key.specs.declared.key.Endpoints.{Endpoints}
 use Rattle.key.specs.declared.key.Endpoints.TheVariants.{Ports, SecurityAssociation, GreProtocol, None}
 use Rattle.key.specs.declared.key.FlowKey.{FlowKey}
 use Rattle.stats.specs.Counting.{FlagsUpTo}
-use Rattle.stats.specs.Range.{widened32}
+use Rattle.stats.specs.Range.{widened}
 use Rattle.stats.specs.declared.counts.TcpFlagCounts.{TcpFlagCounts}
 use Rattle.stats.specs.declared.counts.DirectionStats.{DirectionStats}
-use Rattle.stats.specs.declared.range.OptRange32.{OptRange32}
-use Rattle.stats.specs.declared.range.OptRange8.{OptRange8}
 use Rattle.flow.specs.Counting.{nothing_yet, opened_of, counted_rest, taken, counted_of, closed, has_room, widened_by, first_of}
 use Rattle.flow.specs.CountingLaws.{begun_end, counted_end, packets_one, octets_one, flags_one, other_kept}
 use Rattle.flow.specs.Summary.{Flag, fin, syn, rst, psh, ack, urg, ece, cwr, ns, packets_of, octets_of, flags_of}
@@ -36,6 +32,7 @@ use Rattle.rules.specs.Engine.{engine, key_bytes, is_association, begun_with, fi
 use Rattle.rules.specs.Demand.{Timed, Tally}
 use Rattle.rules.specs.Sound.{KeyLaws, HeldLaws, TwoWay}
 use Rattle.rules.specs.EngineLaws.{octets_in, flag_in, SoundFlow, MadeFlow}
+use Rattle.stats.specs.declared.range.Range.{Range}
 
 -- ## Times and counts
 
@@ -129,18 +126,18 @@ engine_keys = record {
 
 -- ## Records
 
-lengths_kept : (o : OptRange32) (n : ℕ) → n < 2 ^ 32 → LengthsInRange o → LengthsInRange (widened32 o n)
-lengths_kept OptRange32.Absent n h a = (omega arith, omega arith)
-lengths_kept (OptRange32.Present r) n h a = (omega (arith, a.0), omega (arith, a.1))
+lengths_kept : (o : Option (Range ℕ)) (n : ℕ) → n < 2 ^ 32 → LengthsInRange o → LengthsInRange (widened o n)
+lengths_kept None n h a = (omega arith, omega arith)
+lengths_kept (Some r) n h a = (omega (arith, a.0), omega (arith, a.1))
 
-ttl_kept : (o : OptRange8) (v : OptU8) → number8 v ≤ 2 ^ 8 → TtlInRange o → TtlInRange (widened_by o v)
-ttl_kept o OptU8.Absent h a = a
-ttl_kept OptRange8.Absent (OptU8.Present v) h a = (omega arith, omega arith)
-ttl_kept (OptRange8.Present r) (OptU8.Present v) h a = (omega (arith, a.0), omega (arith, a.1))
+ttl_kept : (o : Option (Range ℕ)) (v : Option ℕ) → number8 v ≤ 2 ^ 8 → TtlInRange o → TtlInRange (widened_by o v)
+ttl_kept o None h a = a
+ttl_kept None (Some v) h a = (omega arith, omega arith)
+ttl_kept (Some r) (Some v) h a = (omega (arith, a.0), omega (arith, a.1))
 
-first_kept : (o v : OptU16) → number16 o ≤ 2 ^ 16 → number16 v ≤ 2 ^ 16 → number16 (first_of o v) ≤ 2 ^ 16
-first_kept OptU16.Absent v a b = b
-first_kept (OptU16.Present x) v a b = a
+first_kept : (o v : Option ℕ) → number16 o ≤ 2 ^ 16 → number16 v ≤ 2 ^ 16 → number16 (first_of o v) ≤ 2 ^ 16
+first_kept None v a b = b
+first_kept (Some x) v a b = a
 
 not-false : (b : Bool) → not b ≡ false → b ≡ true
 not-false true e = refl
@@ -153,9 +150,9 @@ begun_parts r p h e = record {
   sound = e;
   start = omega (arith, h.facts.time);
   end = omega (arith, h.facts.time);
-  forward = lengths_kept OptRange32.Absent (octets_in p) h.facts.frame (omega arith, omega arith);
+  forward = lengths_kept None (octets_in p) h.facts.frame (omega arith, omega arith);
   reverse = (omega arith, omega arith);
-  ttl = ttl_kept OptRange8.Absent p.facts.ttl h.facts.ttl (omega arith, omega arith);
+  ttl = ttl_kept None p.facts.ttl h.facts.ttl (omega arith, omega arith);
   dscp = h.facts.dscp;
   ecn = h.facts.ecn;
   icmp = h.facts.icmp;

@@ -1,10 +1,9 @@
 -- The ledger: the same rules, where a flow holds the packets that it took, in order of acceptance, in place of a record.
 -- The theorem `ledger_fed`, with those for sweep and drain: the engine is the ledger summarised. Assumes nothing.
-use Rattle.std.specs.Prelude.{◌≡◌, refl, Bool, true, false, not, cond, ℕ, ◌-◌, suc, leb, length}
+use Rattle.std.specs.Prelude.{◌≡◌, refl, Bool, true, false, not, cond, ℕ, ◌-◌, suc, leb, length, None, Option, Some}
 use Rattle.std.proofs.Common.{sym, ◌∙◌}
 use Rattle.std.proofs.Math.Path.{ap}
 use mathlib.Core.List.{List, [], ◌∷◌, ◌++◌, map}
-use Rattle.std.proofs.Math.Option.{Option, none, some}
 use Rattle.rules.specs.Order.{at_most, equal, insert, sort, those}
 use Rattle.flow.specs.declared.time.EndReason.{EndReason}
 use Rattle.flow.specs.declared.time.EndReason.TheVariants.{IdleTimeout, CaptureEnd}
@@ -50,8 +49,8 @@ module _ (W : Terms) where
   -- ## A flow, a record, a state and an answer, summarised
 
   abbrev option_s : Option (R.Flow M) → Option (R.Flow W)
-  option_s none = none
-  option_s (some f) = some (flow_s W f)
+  option_s None = None
+  option_s (Some f) = Some (flow_s W f)
 
   abbrev taker_s : R.Taker M → R.Taker W
   taker_s (R.old d f) = R.old d (flow_s W f)
@@ -75,25 +74,25 @@ module _ (W : Terms) where
   without_S k (f ∷ fs) = rw (without_S k fs) (cond_map (map (flow_s W)) (equal k (W.bytes f.name)) _ _)
 
   if_closed-S : (o : Option (R.Flow M)) → R.if_closed W (option_s o) ≡ option_s (R.if_closed M o)
-  if_closed-S none = refl
-  if_closed-S (some f) = cond_map option_s (W.closed (summary W f.held)) (some f) none
+  if_closed-S None = refl
+  if_closed-S (Some f) = cond_map option_s (W.closed (summary W f.held)) (Some f) None
 
   or_else-S : (o q : Option (R.Flow M)) → R.or_else W (option_s o) (option_s q) ≡ option_s (R.or_else M o q)
-  or_else-S none q = refl
-  or_else-S (some f) q = refl
+  or_else-S None q = refl
+  or_else-S (Some f) q = refl
 
   reused_S : (p : M.Packet) (l : List (R.Flow M)) → R.reused W p.packet (map (flow_s W) l) ≡ option_s (R.reused M p l)
   reused_S p l = simp (under_S, if_closed-S, or_else-S) (cond_map option_s (W.syn p.packet) _ _)
 
   apart_S : (o : Option (R.Flow M)) (l : List (R.Flow M)) → R.apart W (option_s o) (map (flow_s W) l) ≡ map (flow_s W) (R.apart M o l)
-  apart_S none l = refl
-  apart_S (some f) l = without_S (R.by_key M f) l
+  apart_S None l = refl
+  apart_S (Some f) l = without_S (R.by_key M f) l
 
   chosen_S : (o : Option (R.Flow M)) (a : Bool) (q : Option (R.Flow M)) → R.chosen W (option_s o) a (option_s q) ≡ taker_s (R.chosen M o a q)
-  chosen_S (some f) a q = refl
-  chosen_S none true q = refl
-  chosen_S none false (some g) = refl
-  chosen_S none false none = refl
+  chosen_S (Some f) a q = refl
+  chosen_S None true q = refl
+  chosen_S None false (Some g) = refl
+  chosen_S None false None = refl
 
   taker_S : (p : M.Packet) (l : List (R.Flow M)) → R.taker W p.packet (map (flow_s W) l) ≡ taker_s (R.taker M p l)
   taker_S p l =
@@ -109,9 +108,9 @@ module _ (W : Terms) where
   taking_S s p R.new = refl
 
   ending_S : (o : Option (R.Flow M)) (p : M.Packet) (t : R.Taker M) → R.ending W (option_s o) p.packet (taker_s t) ≡ R.ending M o p t
-  ending_S (some g) p t = refl
-  ending_S none p (R.old d f) = refl
-  ending_S none p R.new = refl
+  ending_S (Some g) p t = refl
+  ending_S None p (R.old d f) = refl
+  ending_S None p R.new = refl
 
   opens_S : (t : R.Taker M) → R.opens W (taker_s t) ≡ R.opens M t
   opens_S (R.old d f) = refl
@@ -125,16 +124,16 @@ module _ (W : Terms) where
   is_full-S s l t = simp (opens_S, length_of_map)
 
   ended_S : (r : EndReason) (o : Option (R.Flow M)) → R.ended W r (option_s o) ≡ map (finished_s W) (R.ended M r o)
-  ended_S r none = refl
-  ended_S r (some f) = refl
+  ended_S r None = refl
+  ended_S r (Some f) = refl
 
   ended_for-S : (r : Option EndReason) (f : R.Flow M) → R.ended_for W r (flow_s W f) ≡ map (finished_s W) (R.ended_for M r f)
-  ended_for-S none f = refl
-  ended_for-S (some r) f = refl
+  ended_for-S None f = refl
+  ended_for-S (Some r) f = refl
 
   keeping_S : (r : Option EndReason) (f : R.Flow M) (l : List (R.Flow M)) → R.keeping W r (flow_s W f) (map (flow_s W) l) ≡ map (flow_s W) (R.keeping M r f l)
-  keeping_S none f l = insert_map (flow_s W) (R.by_key W) f l
-  keeping_S (some r) f l = refl
+  keeping_S None f l = insert_map (flow_s W) (R.by_key W) f l
+  keeping_S (Some r) f l = refl
 
   sizes_S : (l : List (R.Finished M)) → R.sizes W (map (finished_s W) l) ≡ R.sizes M l
   sizes_S [] = refl

@@ -1,11 +1,10 @@
 -- No call turns a sound state unsound: no key twice, no flow under another's reversed key (associations apart), never more flows
 -- than the capacity, and every flow's record sound. Assumes nothing.
-use Rattle.std.specs.Prelude.{◌≡◌, refl, Bool, true, false, cond, ℕ, suc, ◌+◌, ◌-◌, ◌*◌, ◌≤◌, leb}
+use Rattle.std.specs.Prelude.{◌≡◌, refl, Bool, true, false, cond, ℕ, suc, ◌+◌, ◌-◌, ◌*◌, ◌≤◌, leb, None, Option, Some}
 use Rattle.std.proofs.Common.{sym, ◌∙◌, leb-false, le-leb}
 use Rattle.std.proofs.Math.Path.{ap, subst}
 use Rattle.std.proofs.Math.Bool.{not}
 use mathlib.Core.List.{List, [], ◌∷◌, ◌++◌, map}
-use Rattle.std.proofs.Math.Option.{Option, none, some}
 use native.Mathlib.Omega.{arith}
 use Rattle.std.proofs.Math.ListN.{length, length-append}
 use Rattle.std.proofs.lemmas.List.{length-map}
@@ -59,10 +58,10 @@ module _ (W : Terms) where
     where
       go : (b : Bool) → equal k (R.by_key W f) ≡ b → (o : Option (R.Flow W)) → Any W (Found k l) o → Any W (Clear W f) o
           → Any W (λ g. (k ≡ R.by_key W g) × All (Clear W g) (cond b l (f ∷ R.without W k l)) × (suc (length (cond b l (f ∷ R.without W k l))) ≡ suc (length l)))
-          (cond b (some f) o)
+          (cond b (Some f) o)
       go true e o h c = (equal_true k (R.by_key W f) e, a.0, refl)
-      go false e none h c = tt
-      go false e (some g) h c = (h.0, (clear_flip f g c, h.1), ap suc h.2)
+      go false e None h c = tt
+      go false e (Some g) h c = (h.0, (clear_flip f g c, h.1), ap suc h.2)
 
   abbrev Member : List (R.Flow W) → R.Flow W → Type 0
   Member l f = Found (R.by_key W f) l f
@@ -71,16 +70,16 @@ module _ (W : Terms) where
   member l a k = go (R.under W k l) (found k l a)
     where
       go : (o : Option (R.Flow W)) → Any W (Found k l) o → Any W (Member l) o
-      go none h = tt
-      go (some f) h = subst (λ (b : List ℕ). Found b l f) h.0 h
+      go None h = tt
+      go (Some f) h = subst (λ (b : List ℕ). Found b l f) h.0 h
 
   -- no flow has the key
-  absent : (k : List ℕ) (l : List (R.Flow W)) → R.under W k l ≡ none → All (λ g. equal k (R.by_key W g) ≡ false) l
+  absent : (k : List ℕ) (l : List (R.Flow W)) → R.under W k l ≡ None → All (λ g. equal k (R.by_key W g) ≡ false) l
   absent k [] e = tt
   absent k (f ∷ l) e = go (equal k (R.by_key W f)) refl (absent k l) e
     where
-      go : (b : Bool) → equal k (R.by_key W f) ≡ b → (R.under W k l ≡ none → All (λ g. equal k (R.by_key W g) ≡ false) l)
-          → cond b (some f) (R.under W k l) ≡ none → (equal k (R.by_key W f) ≡ false) × All (λ g. equal k (R.by_key W g) ≡ false) l
+      go : (b : Bool) → equal k (R.by_key W f) ≡ b → (R.under W k l ≡ None → All (λ g. equal k (R.by_key W g) ≡ false) l)
+          → cond b (Some f) (R.under W k l) ≡ None → (equal k (R.by_key W f) ≡ false) × All (λ g. equal k (R.by_key W g) ≡ false) l
       go true h rest q = absurd (let z : ◌≡◌ {A = ℕ} 0 1 = cc in omega arith)
       go false h rest q = (h, rest q)
 
@@ -88,8 +87,8 @@ module _ (W : Terms) where
   keyed l a k = go (R.under W k l) (found k l a)
     where
       go : (o : Option (R.Flow W)) → Any W (Found k l) o → Any W (λ f. k ≡ R.by_key W f) o
-      go none h = tt
-      go (some f) h = h.0
+      go None h = tt
+      go (Some f) h = h.0
 
   module _ (Ranged : W.Key → Type 0) (laws : KeyLaws W Ranged) where
     abbrev Named : R.Flow W → Type 0
@@ -134,11 +133,11 @@ module _ (W : Terms) where
           go : (o : Option (R.Flow W)) → R.under W (R.key_of W p) l ≡ o → Any W (Member l) o → Any W (Fine W Good) o → (b : Bool) → W.association (W.key p) ≡ b
               → (q : Option (R.Flow W)) → R.under W (R.reversed_of W p) l ≡ q → Any W (Member l) q → Any W (Fine W Good) q → Any W (λ f. R.reversed_of W p ≡ R.by_key W f) q
               → Fit p l (R.chosen W o b q)
-          go (some f) e m h b k q e' m' h' z = (m, h, tt)
-          go none e m h true k q e' m' h' z = opened (absent (R.key_of W p) l e) (λ n. clash k n)
-          go none e m h false k (some f) e' m' h' z =
+          go (Some f) e m h b k q e' m' h' z = (m, h, tt)
+          go None e m h true k q e' m' h' z = opened (absent (R.key_of W p) l e) (λ n. clash k n)
+          go None e m h false k (Some f) e' m' h' z =
               (m', h', sym (laws.kind (W.key p) f.name (held.ranged p ok) (held.named f.name f.held h') z) ∙ k)
-          go none e m h false k none e' m' h' z = opened (absent (R.key_of W p) l e) (λ n. absent (R.reversed_of W p) l e')
+          go None e m h false k None e' m' h' z = opened (absent (R.key_of W p) l e) (λ n. absent (R.reversed_of W p) l e')
 
       length_insert : (f : R.Flow W) (l : List (R.Flow W)) → length (insert (R.by_key W) f l) ≡ suc (length l)
       length_insert f [] = refl
@@ -162,8 +161,8 @@ module _ (W : Terms) where
       flows_without k l a = (pairs_out k l a.0, all_out (Fine W Good) k l a.1, omega (arith, length_without k l, a.2))
 
       flows_apart : (o : Option (R.Flow W)) (l : List (R.Flow W)) → Flows W Good s l → Flows W Good s (R.apart W o l)
-      flows_apart none l a = a
-      flows_apart (some f) l a = flows_without (R.by_key W f) l a
+      flows_apart None l a = a
+      flows_apart (Some f) l a = flows_without (R.by_key W f) l a
 
       -- the flow that took the packet is fine
       taking_fine : (p : W.Packet) → InRange p → (l : List (R.Flow W)) (t : R.Taker W) → Fit p l t → R.is_spent W p t ≡ false → Fine W Good (R.taking W s p t)
@@ -195,8 +194,8 @@ module _ (W : Terms) where
           )
 
       flows_keeping : (r : Option EndReason) (f : R.Flow W) (l : List (R.Flow W)) → Flows W Good s (insert (R.by_key W) f l) → Flows W Good s l → Flows W Good s (R.keeping W r f l)
-      flows_keeping none f l a b = a
-      flows_keeping (some r) f l a b = b
+      flows_keeping None f l a b = a
+      flows_keeping (Some r) f l a b = b
 
       -- ## The records that are handed out
 
@@ -212,12 +211,12 @@ module _ (W : Terms) where
       drained_fine l a = finishing CaptureEnd (sort (R.by_key W) l) (all_sort (Fine W Good) (R.by_key W) l a)
 
       ended_fine : (r : EndReason) (o : Option (R.Flow W)) → Any W (Fine W Good) o → All (FineRecord W Good) (R.ended W r o)
-      ended_fine r none h = tt
-      ended_fine r (some f) h = (h, tt)
+      ended_fine r None h = tt
+      ended_fine r (Some f) h = (h, tt)
 
       ended_for-fine : (r : Option EndReason) (f : R.Flow W) → Fine W Good f → All (FineRecord W Good) (R.ended_for W r f)
-      ended_for-fine none f h = tt
-      ended_for-fine (some r) f h = (h, tt)
+      ended_for-fine None f h = tt
+      ended_for-fine (Some r) f h = (h, tt)
 
       -- whichever way a test goes, knowing which
       cases : {A : Type 0} (P : A → Type 0) (b : Bool) {x y : A} → (b ≡ true → P x) → (b ≡ false → P y) → P (cond b x y)
@@ -278,12 +277,12 @@ module _ (W : Terms) where
           sizes_most (f ∷ out) b = omega (arith, small f.name f.reason f.held b.0, sizes_most out b.1)
 
           one_more : (o : Option (R.Flow W)) (q : W.Packet) (u : R.Taker W) (f : R.Flow W) → length (R.ended W Fin o ++ R.ended_for W (R.ending W o q u) f) ≤ 1
-          one_more (some x) q u f = omega arith
-          one_more none q u f = go (R.ending W none q u)
+          one_more (Some x) q u f = omega arith
+          one_more None q u f = go (R.ending W None q u)
             where
               go : (r : Option EndReason) → length (R.ended_for W r f) ≤ 1
-              go none = omega arith
-              go (some r) = omega arith
+              go None = omega arith
+              go (Some r) = omega arith
 
           length_total : {A : Type 0} (x : List A) → length x ≡ total (λ _. 1) x
           length_total [] = refl

@@ -1,8 +1,7 @@
 -- What is said of the ledger: a flow found under a key, sums over the packets of flows and records, and numbers that ascend. That
 -- packets, batches, sweeps and drains keep to it stands in proofs/AccountLaws.antt. Assumes nothing.
-use Rattle.std.specs.Prelude.{◌≡◌, cond, ℕ, suc, ◌+◌, ◌<◌, max, eqb, take}
+use Rattle.std.specs.Prelude.{◌≡◌, cond, ℕ, suc, ◌+◌, ◌<◌, max, eqb, take, None, Option, Some}
 use mathlib.Core.List.{List, [], ◌∷◌, ◌++◌}
-use Rattle.std.proofs.Math.Option.{Option, none, some}
 use Rattle.rules.specs.Totals.{total, All}
 use Rattle.rules.specs.Rules.{Terms, Settings}
 use Rattle.rules.specs.Rules as R
@@ -13,8 +12,8 @@ use Rattle.rules.specs.Ledger.{Numbered, Story, first, more, ledger}
 module _ (W : Terms) where
   -- a property of the flow, if there is one
   abbrev pub Any : (R.Flow W → Type 0) → Option (R.Flow W) → Type 0
-  Any P none = Unit {0}
-  Any P (some f) = P f
+  Any P None = Unit {0}
+  Any P (Some f) = P f
 
   -- to take the flow out leaves the rest
   abbrev pub Inside : List (R.Flow W) → R.Flow W → Type 0

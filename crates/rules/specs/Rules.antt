@@ -1,8 +1,7 @@
 -- The plain rules of document 01, in its order and words: times, sweep, drain, one packet, the refusals Full, Spent and Room, batches.
 -- They speak of keys, packets and what a flow holds only through `Terms`, so that one text serves the engine, whose flows hold
 -- records (Engine.antt), and the ledger, whose flows hold the packets that they took (Ledger.antt). Assumes nothing.
-use Rattle.std.specs.Prelude.{Bool, true, false, not, cond, ◌&&◌, List, [], ◌∷◌, ◌++◌, map, ℕ, suc, ◌+◌, ◌-◌, max, leb, eqb, length}
-use Rattle.std.proofs.Math.Option.{Option, none, some}
+use Rattle.std.specs.Prelude.{Bool, true, false, not, cond, ◌&&◌, List, [], ◌∷◌, ◌++◌, map, ℕ, suc, ◌+◌, ◌-◌, max, leb, eqb, length, None, Option, Some}
 use Rattle.flow.specs.Idle.{timeout_of, lateness_of}
 use Rattle.flow.specs.declared.time.Millis.{Millis}
 use Rattle.flow.specs.declared.time.TimeResolution.{TimeResolution}
@@ -131,8 +130,8 @@ module _ (W : Terms) where
 
   -- the flow whose key has these bytes
   abbrev pub under : List ℕ → List Flow → Option Flow
-  under k [] = none
-  under k (f ∷ fs) = cond (equal k (by_key f)) (some f) (under k fs)
+  under k [] = None
+  under k (f ∷ fs) = cond (equal k (by_key f)) (Some f) (under k fs)
 
   -- .. and the flows without it
   abbrev pub without : List ℕ → List Flow → List Flow
@@ -149,22 +148,22 @@ module _ (W : Terms) where
 
   -- the flow, if it "has seen both FINs"
   abbrev pub if_closed : Option Flow → Option Flow
-  if_closed none = none
-  if_closed (some f) = cond (closed f.held) (some f) none
+  if_closed None = None
+  if_closed (Some f) = cond (closed f.held) (Some f) None
 
   abbrev pub or_else : Option Flow → Option Flow → Option Flow
-  or_else (some f) g = some f
-  or_else none g = g
+  or_else (Some f) g = Some f
+  or_else None g = g
 
   -- "1. If SYN is set and the flow under its key has seen both FINs, or else the one under the reversed key has, that flow ends Fin
   -- without this packet."
   abbrev pub reused : Packet → List Flow → Option Flow
-  reused p fs = cond (syn p) (or_else (if_closed (under (key_of p) fs)) (if_closed (under (reversed_of p) fs))) none
+  reused p fs = cond (syn p) (or_else (if_closed (under (key_of p) fs)) (if_closed (under (reversed_of p) fs))) None
 
   -- the flows without the one that step 1 ended
   abbrev pub apart : Option Flow → List Flow → List Flow
-  apart none fs = fs
-  apart (some f) fs = without (by_key f) fs
+  apart None fs = fs
+  apart (Some f) fs = without (by_key f) fs
 
   pub data Taker : Type 0 where
     old : Direction → Flow → Taker
@@ -173,10 +172,10 @@ module _ (W : Terms) where
   -- "2. A flow under its key takes it as forward; else one under the reversed key takes it as reverse, unless the endpoints are a
   -- security association; else a flow opens under its key, forward."
   abbrev pub chosen : Option Flow → Bool → Option Flow → Taker
-  chosen (some f) association g = old Forward f
-  chosen none true g = new
-  chosen none false (some g) = old Reverse g
-  chosen none false none = new
+  chosen (Some f) association g = old Forward f
+  chosen None true g = new
+  chosen None false (Some g) = old Reverse g
+  chosen None false None = new
 
   abbrev pub taker : Packet → List Flow → Taker
   taker p fs = chosen (under (key_of p) fs) (association (key p)) (under (reversed_of p) fs)
@@ -203,23 +202,23 @@ module _ (W : Terms) where
   -- "4. If step 1 ended a flow, nothing else ends. Otherwise RST ends the flow Rst; otherwise, if both FINs had been seen before this
   -- packet, it ends Fin."
   abbrev pub ending : Option Flow → Packet → Taker → Option EndReason
-  ending (some g) p t = none
-  ending none p t = cond (rst p) (some Rst) (cond (was_closed t) (some Fin) none)
+  ending (Some g) p t = None
+  ending None p t = cond (rst p) (Some Rst) (cond (was_closed t) (Some Fin) None)
 
   -- the record of the flow that step 1 ended
   abbrev pub ended : EndReason → Option Flow → List Finished
-  ended r none = []
-  ended r (some f) = finish r f ∷ []
+  ended r None = []
+  ended r (Some f) = finish r f ∷ []
 
   -- .. and of the one that step 4 ended
   abbrev pub ended_for : Option EndReason → Flow → List Finished
-  ended_for none f = []
-  ended_for (some r) f = finish r f ∷ []
+  ended_for None f = []
+  ended_for (Some r) f = finish r f ∷ []
 
   -- a flow that does not end is kept, in order of key bytes
   abbrev pub keeping : Option EndReason → Flow → List Flow → List Flow
-  keeping none f fs = insert by_key f fs
-  keeping (some r) f fs = fs
+  keeping None f fs = insert by_key f fs
+  keeping (Some r) f fs = fs
 
   -- what an unrefused packet does
   pub record Done : Type 0 where

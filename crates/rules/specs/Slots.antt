@@ -1,8 +1,7 @@
 -- From the slots of a table to the engine's flows. What a table of slots means is its flows in order of key bytes: where each flow
 -- sits does not matter. The laws of what the code does to a slot stand in proofs/SlotsLaws.antt. Assumes nothing.
-use Rattle.std.specs.Prelude.{Bool, cond, ℕ}
+use Rattle.std.specs.Prelude.{Bool, cond, ℕ, None, Option, Some}
 use mathlib.Core.List.{List, [], ◌∷◌}
-use Rattle.std.proofs.Math.Option.{Option, none, some}
 use Rattle.rules.specs.Order.{sort}
 use Rattle.flow.specs.declared.time.EndReason.{EndReason}
 use Rattle.rules.specs.Rules.{Terms}
@@ -14,8 +13,8 @@ module _ (W : Terms) where
 
   abbrev pub occupied : Slots → List (R.Flow W)
   occupied [] = []
-  occupied (none ∷ l) = occupied l
-  occupied (some f ∷ l) = f ∷ occupied l
+  occupied (None ∷ l) = occupied l
+  occupied (Some f ∷ l) = f ∷ occupied l
 
   -- what a table means
   abbrev pub meaning : Slots → List (R.Flow W)
@@ -24,8 +23,8 @@ module _ (W : Terms) where
   -- ## A sweep over the slots
 
   abbrev pub keep : (R.Flow W → Bool) → Option (R.Flow W) → Option (R.Flow W)
-  keep test none = none
-  keep test (some f) = cond (test f) (some f) none
+  keep test None = None
+  keep test (Some f) = cond (test f) (Some f) None
 
   -- ## The room that a sweep needs, summed over the slots in any order
 

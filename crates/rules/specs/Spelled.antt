@@ -1,5 +1,5 @@
 -- The key form and the record form spelled out byte by byte, so that the examples of Table.antt compute. Assumes nothing.
-use Rattle.std.specs.Prelude.{◌≡◌, List, [], ◌∷◌, ◌++◌, ℕ, zero, suc, ◌+◌, ◌/◌, ◌%◌, length}
+use Rattle.std.specs.Prelude.{◌≡◌, List, [], ◌∷◌, ◌++◌, ℕ, zero, suc, ◌+◌, ◌/◌, ◌%◌, length, None, Option, Some}
 use Rattle.std.proofs.Common.{sym, ap, ◌∙◌}
 use Rattle.std.proofs.Math.Path.{fun_ext}
 use Rattle.forms.specs.Form.{raw, raw_zero, raw_one_writes, raw_writes}
@@ -15,8 +15,6 @@ use Rattle.key.specs.declared.key.FlowKey.{FlowKey}
 use Rattle.key.specs.declared.link.MacAddress.{MacAddress}
 use Rattle.key.specs.declared.vlan.VlanTags.{VlanTags}
 use Rattle.key.specs.declared.vlan.VlanTags.TheVariants.{Untagged, Single, Double}
-use Rattle.key.specs.declared.encapsulation.OptEncapsulation.{OptEncapsulation}
-use Rattle.key.specs.declared.encapsulation.OptEncapsulation.TheVariants.{Absent, Present}
 use Rattle.stats.specs.declared.counts.TcpFlagCounts.{TcpFlagCounts}
 use Rattle.flow.specs.declared.time.EndReason.{EndReason}
 use Rattle.flow.specs.declared.record.FlowRecord.{FlowRecord}
@@ -27,6 +25,7 @@ use Rattle.wire.specs.declared.record.TailFields.{TailFields}
 use Rattle.wire.specs.RecordForm.{direction, reason_number, state_number, resolution_number, bit_number, head_fields, direction_fields, tail_fields, record_bytes}
 use Rattle.wire.specs.RecordWrite.{head_writes, flags_writes, direction_writes, tail_writes, record_writes}
 use Rattle.rules.specs.Engine.{key_bytes, finished_flow, record_size}
+use Rattle.key.specs.declared.encapsulation.Encapsulation.{Encapsulation}
 
 -- ## The key
 
@@ -76,13 +75,13 @@ vlan_spelled_lem Untagged = untagged_writes
 vlan_spelled_lem (Single t) = single_writes t
 vlan_spelled_lem (Double t u) = double_writes t u
 
-abbrev tunnel_spelled : OptEncapsulation → List ℕ
-tunnel_spelled Absent = number_bytes 0
-tunnel_spelled (Present e) = number_bytes (e.kind + 1) ++ number_bytes (number32 e.id)
+abbrev tunnel_spelled : Option Encapsulation → List ℕ
+tunnel_spelled None = number_bytes 0
+tunnel_spelled (Some e) = number_bytes (e.kind + 1) ++ number_bytes (number32 e.id)
 
-tunnel_spelled_lem : (c : OptEncapsulation) → encapsulation.write c ≡ tunnel_spelled c
-tunnel_spelled_lem Absent = no_tunnel_writes
-tunnel_spelled_lem (Present e) = tunnel_writes e
+tunnel_spelled_lem : (c : Option Encapsulation) → encapsulation.write c ≡ tunnel_spelled c
+tunnel_spelled_lem None = no_tunnel_writes
+tunnel_spelled_lem (Some e) = tunnel_writes e
 
 abbrev pub key_spelled : FlowKey → List ℕ
 key_spelled k =

@@ -1,16 +1,11 @@
 -- Document 01's "Examples on each side", P1 to P11, as a table, `examples`; and rows of ours, `further`. Each row opens an engine,
 -- makes calls, and says after each call what was answered and which flows are open. That all pass stands in proofs/TableLaws.antt.
 -- Assumes nothing.
-use Rattle.std.specs.Prelude.{Bool, true, false, ◌&&◌, List, [], ◌∷◌, ℕ, zero, suc, ◌+◌, ◌-◌, ◌^◌, eqb, length}
-use Rattle.forms.specs.declared.optional.OptU8.{OptU8}
-use Rattle.forms.specs.declared.optional.OptU16.{OptU16}
+use Rattle.std.specs.Prelude.{Bool, true, false, ◌&&◌, List, [], ◌∷◌, ℕ, zero, suc, ◌+◌, ◌-◌, ◌^◌, eqb, length, None, Option, Some}
 use Rattle.key.specs.declared.key.Address.{Address}
 use Rattle.key.specs.declared.key.Endpoints.{Endpoints}
 use Rattle.key.specs.declared.key.FlowKey.{FlowKey}
 use Rattle.key.specs.declared.vlan.VlanTags.{VlanTags}
-use Rattle.key.specs.declared.encapsulation.OptEncapsulation.{OptEncapsulation}
-use Rattle.stats.specs.declared.range.OptRange8.{OptRange8}
-use Rattle.stats.specs.declared.range.OptRange32.{OptRange32}
 use Rattle.flow.specs.Counting.{opening_time}
 use Rattle.flow.specs.Idle.{timeout_of}
 use Rattle.flow.specs.declared.time.EndReason.{EndReason}
@@ -25,6 +20,8 @@ use Rattle.rules.specs.Order.{equal}
 use Rattle.rules.specs.Rules.{Terms, Refusal, Accepted, BadPacket, Short, Full, Spent, Room, number_of, Settings, settings}
 use Rattle.rules.specs.Rules.{Flow, Finished, Engine, fresh, Told, feed_all, sweep_at, drain_all}
 use Rattle.rules.specs.Engine.{engine_by, key_bytes, record_size}
+use Rattle.key.specs.declared.encapsulation.Encapsulation.{Encapsulation}
+use Rattle.stats.specs.declared.range.Range.{Range}
 
 -- ## What a row says
 
@@ -131,11 +128,11 @@ key_with protocol ends a b = record {
   destination = Address.V4 b;
   endpoints = ends;
   protocol = protocol;
-  ethertype = OptU16.Absent;
+  ethertype = None;
   source_mac = record { high = 0; low = a };
   destination_mac = record { high = 0; low = b };
   vlan = VlanTags.Untagged;
-  encapsulation = OptEncapsulation.Absent;
+  encapsulation = None;
 }
 
 abbrev tcp : ℕ → ℕ → FlowKey
@@ -151,11 +148,11 @@ packet_of t octets mask k = record {
     time = record { 0 = t };
     frame_octets = octets;
     captured_octets = octets;
-    ttl = OptU8.Absent;
-    tcp_flags = OptU16.Present mask;
-    icmp = OptU16.Absent;
-    dscp = OptU8.Absent;
-    ecn = OptU8.Absent;
+    ttl = None;
+    tcp_flags = Some mask;
+    icmp = None;
+    dscp = None;
+    ecn = None;
   };
   key = k;
 }
@@ -204,9 +201,9 @@ abbrev drained : List Out → ℕ → Step
 drained outs w = record { call = drain ample; refusal = Accepted; taken = 0; opened = 0; outs = outs; left = []; clock = w }
 
 -- "a length range exactly if it has packets"
-abbrev lengths_of : ℕ → OptRange32
-lengths_of zero = OptRange32.Absent
-lengths_of (suc packets) = OptRange32.Present (record { min = 0; max = 60 })
+abbrev lengths_of : ℕ → Option (Range ℕ)
+lengths_of zero = None
+lengths_of (suc packets) = Some (record { min = 0; max = 60 })
 
 -- a record of a flow that began at 0 with SYN not seen: forward packets, octets and FINs, reverse FINs in as many packets, captured octets
 abbrev held : ℕ → ℕ → ℕ → ℕ → ℕ → FlowRecord
@@ -224,8 +221,8 @@ held packets octets fins back captured = record {
     packet_length = lengths_of back;
     tcp_flags = record { fin = back; syn = 0; rst = 0; psh = 0; ack = 0; urg = 0; ece = 0; cwr = 0; ns = 0 };
   };
-  network = record { ttl = OptRange8.Absent; dscp = OptU8.Absent; ecn = OptU8.Absent };
-  transport = record { icmp = OptU16.Absent };
+  network = record { ttl = None; dscp = None; ecn = None };
+  transport = record { icmp = None };
   capture = record { captured_octets = captured; truncated = false };
 }
 

@@ -1,49 +1,49 @@
 -- The laws of `specs/Table.antt`. Assumes nothing.
+use Rattle.std.specs.Prelude.{None, Some}
 use mathlib.Core.Path.{◌≡◌, refl, sym, ap, ◌∙◌}
 use mathlib.Core.Logic.{⊎_elim, ◌⊎◌, inl, inr}
 use mathlib.Core.Bool.{Bool, true, false, false≢true}
 use mathlib.Core.List.{List, [], ◌∷◌}
-use Prim.Native.Nat.{ℕ, zero, suc, ◌+◌, ◌*◌, ◌≤◌, ◌<◌}
+use Prim.Native.Nat.{ℕ, zero, suc, ◌+◌, ◌-◌, ◌*◌, ◌≤◌, ◌<◌}
 use native.Mathlib.Nat.{add-zero, zero-add}
 use native.Mathlib.Omega.{arith}
 use lib.Dec.{eqb}
-use lib.ListN.{length, get_or, set, length-set}
+use lib.ListN.{length, get_or, set, take, drop, length-set}
 use lib.Seq.{take-length, ext_get_or, get_or-set_same, get_or-set_other}
 use borrow.Author.Tests.{eq-eqb, ne_eqb, eqb-true}
 use Rattle.memory.specs.Bytes.{part, patch}
-use Rattle.memory.proofs.Laws.{length_patch, patch_inside, get_d_part, length_part, part_part, part_patched, part_elsewhere, part_inside, apart, less_or, same_or}
+use Rattle.memory.proofs.Laws.{length_patch, patch_inside, get_d_part, length_part, part_part, part_patched, part_elsewhere, part_inside, lent, patch_join, set_two, apart, less_or, same_or}
 use Rattle.slots.specs.Table.{slot, slots_from, slots, key_of, is_used, both, same, holds, pick, first_where}
-use Rattle.slots.specs.declared.Found.TheVariants.{At, Nothing}
 
 -- ---- the first slot that passes a test
 
 module _ (s : List ℕ) (test : List ℕ → Bool) where
   step_no : (i n : ℕ) → test (slot s i) ≡ false → first_where test i (slots_from s i (suc n)) ≡ first_where test (i + 1) (slots_from s (i + 1) n)
   unfolding slots_from first_where pick
-  step_no i n e = ap (λ (t : Bool). pick t (At i) (first_where test (i + 1) (slots_from s (i + 1) n))) e
+  step_no i n e = ap (λ (t : Bool). pick t (Some i) (first_where test (i + 1) (slots_from s (i + 1) n))) e
 
-  step_yes : (i n : ℕ) → test (slot s i) ≡ true → first_where test i (slots_from s i (suc n)) ≡ At i
+  step_yes : (i n : ℕ) → test (slot s i) ≡ true → first_where test i (slots_from s i (suc n)) ≡ Some i
   unfolding slots_from first_where pick
-  step_yes i n e = ap (λ (t : Bool). pick t (At i) (first_where test (i + 1) (slots_from s (i + 1) n))) e
+  step_yes i n e = ap (λ (t : Bool). pick t (Some i) (first_where test (i + 1) (slots_from s (i + 1) n))) e
 
   here_from : (n i j : ℕ) → i ≤ j → j < i + n → test (slot s j) ≡ true → ((k : ℕ) → i ≤ k → k < j → test (slot s k) ≡ false)
-      → first_where test i (slots_from s i n) ≡ At j
+      → first_where test i (slots_from s i n) ≡ Some j
   here_from zero i j lo hi hit none = absurd (omega arith)
   here_from (suc n) i j lo hi hit none =
       ⊎_elim
       (λ (l : i < j). step_no i n (none i (omega arith) l) ∙ here_from n (i + 1) j (omega arith) (omega arith) hit (λ k a b. none k (omega arith) b))
-      (λ g. let e : j ≡ i = omega arith in step_yes i n (ap (λ (k : ℕ). test (slot s k)) (sym e) ∙ hit) ∙ ap At (sym e))
+      (λ g. let e : j ≡ i = omega arith in step_yes i n (ap (λ (k : ℕ). test (slot s k)) (sym e) ∙ hit) ∙ ap Some (sym e))
       (less_or i j)
 
-  none_from : (n i : ℕ) → ((k : ℕ) → i ≤ k → k < i + n → test (slot s k) ≡ false) → first_where test i (slots_from s i n) ≡ Nothing
+  none_from : (n i : ℕ) → ((k : ℕ) → i ≤ k → k < i + n → test (slot s k) ≡ false) → first_where test i (slots_from s i n) ≡ None
   unfolding slots_from first_where
   none_from zero i none = refl
   none_from (suc n) i none = step_no i n (none i (omega arith) (omega arith)) ∙ none_from n (i + 1) (λ k a b. none k (omega arith) (omega arith))
 
-  pub first_here : (c i : ℕ) → i < c → test (slot s i) ≡ true → ((k : ℕ) → k < i → test (slot s k) ≡ false) → first_where test 0 (slots s c) ≡ At i
+  pub first_here : (c i : ℕ) → i < c → test (slot s i) ≡ true → ((k : ℕ) → k < i → test (slot s k) ≡ false) → first_where test 0 (slots s c) ≡ Some i
   first_here c i h hit none = here_from c 0 i (omega arith) (omega arith) hit (λ k a b. none k b)
 
-  pub first_none : (c : ℕ) → ((k : ℕ) → k < c → test (slot s k) ≡ false) → first_where test 0 (slots s c) ≡ Nothing
+  pub first_none : (c : ℕ) → ((k : ℕ) → k < c → test (slot s k) ≡ false) → first_where test 0 (slots s c) ≡ None
   first_none c none = none_from c 0 (λ k a b. none k (omega arith))
 
 -- what was found: the first of the n slots from i that passes
@@ -54,10 +54,10 @@ pub record FirstAt (s : List ℕ) (test : List ℕ → Bool) (i n j : ℕ) : Typ
   pub before : (k : ℕ) → i ≤ k → k < j → test (slot s k) ≡ false
 
 found_step : (s : List ℕ) (test : List ℕ → Bool) (i n j : ℕ) (t : Bool) → test (slot s i) ≡ t
-    → first_where test i (slots_from s i (suc n)) ≡ At j
-    → (first_where test (i + 1) (slots_from s (i + 1) n) ≡ At j → FirstAt s test (i + 1) n j) → FirstAt s test i (suc n) j
+    → first_where test i (slots_from s i (suc n)) ≡ Some j
+    → (first_where test (i + 1) (slots_from s (i + 1) n) ≡ Some j → FirstAt s test (i + 1) n j) → FirstAt s test i (suc n) j
 found_step s test i n j true q e rest =
-    let w : At i ≡ At j = sym (step_yes s test i n q) ∙ e in
+    let w : Some i ≡ Some j = sym (step_yes s test i n q) ∙ e in
     let v : i ≡ j = cc in
     record { from = omega arith; below = omega arith; passes = ap (λ (k : ℕ). test (slot s k)) (sym v) ∙ q; before = λ k a b. absurd (omega arith) }
 found_step s test i n j false q e rest =
@@ -71,7 +71,7 @@ found_step s test i n j false q e rest =
           (λ g. let v : k ≡ i = omega arith in ap (λ (m : ℕ). test (slot s m)) v ∙ q) (less_or i k);
     }
 
-pub found_at : (s : List ℕ) (test : List ℕ → Bool) (n i j : ℕ) → first_where test i (slots_from s i n) ≡ At j → FirstAt s test i n j
+pub found_at : (s : List ℕ) (test : List ℕ → Bool) (n i j : ℕ) → first_where test i (slots_from s i n) ≡ Some j → FirstAt s test i n j
 unfolding slots_from first_where
 found_at s test zero i j e = absurd (let z : ◌≡◌ {A = ℕ} 0 1 = cc in omega arith)
 found_at s test (suc n) i j e = found_step s test i n j (test (slot s i)) refl e (found_at s test n (i + 1) j)
@@ -177,6 +177,11 @@ unfolding key_of slot
 key_part s i n fits byte e =
     ap (part (slot s i) 2) (at_byte s i fits 1 (omega arith) ∙ e) ∙ part_part s (256 + 624 * i) 624 2 n (omega arith) fits
 
+-- the same, as `&state[a..a + n]` lends it
+pub key_lent : (s : List ℕ) (i : ℕ) → 256 + 624 * i + 624 ≤ length s → get_or s (256 + 624 * i + 1) 0 < 256
+    → take (256 + 624 * i + 2 + get_or s (256 + 624 * i + 1) 0 - (256 + 624 * i + 2)) (drop (256 + 624 * i + 2) s) ≡ key_of (slot s i)
+key_lent s i fits byte = lent s (256 + 624 * i + 2) (get_or s (256 + 624 * i + 1) 0) ∙ sym (key_part s i _ fits byte refl)
+
 -- ---- the slots after a patch
 
 pub length_slots : (s : List ℕ) (n i : ℕ) → length (slots_from s i n) ≡ n
@@ -233,14 +238,14 @@ slots_elsewhere s c at bs fits size away =
 -- ---- nothing was found
 
 none_step : (s : List ℕ) (test : List ℕ → Bool) (i n : ℕ) (t : Bool) → test (slot s i) ≡ t
-    → first_where test i (slots_from s i (suc n)) ≡ Nothing
-    → (test (slot s i) ≡ false) × (first_where test (i + 1) (slots_from s (i + 1) n) ≡ Nothing)
+    → first_where test i (slots_from s i (suc n)) ≡ None
+    → (test (slot s i) ≡ false) × (first_where test (i + 1) (slots_from s (i + 1) n) ≡ None)
 none_step s test i n true q e =
-    let w : At i ≡ Nothing = sym (step_yes s test i n q) ∙ e in
+    let w : Some i ≡ None = sym (step_yes s test i n q) ∙ e in
     absurd (let z : ◌≡◌ {A = ℕ} 0 1 = cc in omega arith)
 none_step s test i n false q e = (q, sym (step_no s test i n q) ∙ e)
 
-none_at : (s : List ℕ) (test : List ℕ → Bool) (n i : ℕ) → first_where test i (slots_from s i n) ≡ Nothing
+none_at : (s : List ℕ) (test : List ℕ → Bool) (n i : ℕ) → first_where test i (slots_from s i n) ≡ None
     → (k : ℕ) → i ≤ k → k < i + n → test (slot s k) ≡ false
 none_at s test zero i e k lo hi = absurd (omega arith)
 none_at s test (suc n) i e k lo hi =
@@ -248,7 +253,7 @@ none_at s test (suc n) i e k lo hi =
     ⊎_elim (λ (l : i < k). none_at s test n (i + 1) h.1 k (omega arith) (omega arith))
     (λ g. let q : k ≡ i = omega arith in ap (λ (m : ℕ). test (slot s m)) q ∙ h.0) (less_or i k)
 
-pub not_found : (s : List ℕ) (test : List ℕ → Bool) (c : ℕ) → first_where test 0 (slots s c) ≡ Nothing → (k : ℕ) → k < c → test (slot s k) ≡ false
+pub not_found : (s : List ℕ) (test : List ℕ → Bool) (c : ℕ) → first_where test 0 (slots s c) ≡ None → (k : ℕ) → k < c → test (slot s k) ≡ false
 not_found s test c e k h = none_at s test c 0 e k (omega arith) (omega arith)
 
 -- ---- a slot under a new key
@@ -270,3 +275,9 @@ module _ (b key : List ℕ) (fits : 2 + length key ≤ length b) where
       ∙ sym (part_part (patch b 0 bs) 0 (2 + n) 2 n (omega arith) (omega (arith, length_patch b 0 bs entry_fits)))
       ∙ ap (λ (l : List ℕ). part l 2 n) (part_patched b 0 bs entry_fits (2 + n) (omega arith))
       ∙ take-length key
+
+-- two bytes stored, and a key behind them
+pub key_put : (s : List ℕ) (base n : ℕ) (key : List ℕ) → base + (2 + length key) ≤ length s
+    → patch (set (set s base 1) (base + 1) n) (base + 2) key ≡ patch s base (1 ∷ n ∷ key)
+key_put s base n key h =
+    ap (λ (l : List ℕ). patch l (base + 2) key) (set_two s base 1 n (omega arith)) ∙ patch_join s base (1 ∷ n ∷ []) key h

@@ -1,8 +1,6 @@
 -- The flow table as a list of slots, and the search in it.
-use Rattle.std.specs.Prelude.{ℕ, zero, suc, ◌+◌, ◌*◌, ◌<◌, ◌≡◌, Bool, true, false, List, [], ◌∷◌, get_or, eqb}
+use Rattle.std.specs.Prelude.{ℕ, zero, suc, ◌+◌, ◌*◌, ◌<◌, ◌≡◌, Bool, true, false, List, [], ◌∷◌, get_or, eqb, None, Option, Some}
 use Rattle.memory.specs.Bytes.{part}
-use Rattle.slots.specs.declared.Found.{Found}
-use Rattle.slots.specs.declared.Found.TheVariants.{At, Nothing}
 
 -- ---- slot i of the state s
 
@@ -40,13 +38,13 @@ holds key b = both (is_used b) (same (key_of b) key)
 
 -- ---- the first slot that passes a test, counted from i
 
-unfoldable pub pick : Bool → Found → Found → Found
+unfoldable pub pick : Bool → Option ℕ → Option ℕ → Option ℕ
 pick true here later = here
 pick false here later = later
 
-unfoldable pub first_where : (List ℕ → Bool) → ℕ → List (List ℕ) → Found
-first_where test i [] = Nothing
-first_where test i (b ∷ bs) = pick (test b) (At i) (first_where test (i + 1) bs)
+unfoldable pub first_where : (List ℕ → Bool) → ℕ → List (List ℕ) → Option ℕ
+first_where test i [] = None
+first_where test i (b ∷ bs) = pick (test b) (Some i) (first_where test (i + 1) bs)
 
 -- ---- no key twice
 

@@ -1,11 +1,10 @@
 -- One slot of a state that is ready changes, and the state is ready still; and what its slots are in the rules' words. Assumes nothing.
-use Rattle.std.specs.Prelude.{ℕ, zero, suc, ◌+◌, ◌<◌, ◌≡◌, refl, Bool, true, false, cond, List, [], ◌∷◌, length, get_or, set}
+use Rattle.std.specs.Prelude.{ℕ, zero, suc, ◌+◌, ◌<◌, ◌≡◌, refl, Bool, true, false, cond, List, [], ◌∷◌, length, get_or, set, None, Some}
 use Rattle.std.proofs.Math.Path.{sym, ap}
 use Rattle.std.proofs.Common.{◌∙◌, subst, add-zero, zero-add, arith}
 use Rattle.std.proofs.Math.Logic.{⊎_elim}
 use Rattle.std.proofs.lemmas.Bool.{false≢true}
 use Rattle.std.proofs.Math.Bool.{not-eq-not}
-use Rattle.std.proofs.Math.Option.{none, some}
 use Rattle.std.proofs.Math.ListN.{get_or-map}
 use Rattle.memory.proofs.Laws.{same_or}
 use Rattle.slots.specs.Table.{slot, slots_from, slots, is_used, key_of, holds, NoKeyTwice}
@@ -217,7 +216,7 @@ open_from s (suc n) i =
   where
     go : (t : Bool) → used_in s (i + 1) ≡ used_in s i + bit t
         → used_in s (i + 1) + length (occupied engine (slots_of (slots_from s (i + 1) n))) ≡ used_in s (i + 1 + n)
-        → used_in s i + length (occupied engine (cond t (some (flow_in (slot s i))) none ∷ slots_of (slots_from s (i + 1) n))) ≡ used_in s (i + 1 + n)
+        → used_in s i + length (occupied engine (cond t (Some (flow_in (slot s i))) None ∷ slots_of (slots_from s (i + 1) n))) ≡ used_in s (i + 1 + n)
     go true next rest = omega arith
     go false next rest = omega arith
 
@@ -234,14 +233,14 @@ open_and_free s c index free h = omega (arith, open_flows s c, h.unused.count)
 -- ## The slots in the words of the rules
 
 -- the flow of a slot that is used
-pub used_flow : (b : List ℕ) → is_used b ≡ true → slot_flow b ≡ some (flow_in b)
+pub used_flow : (b : List ℕ) → is_used b ≡ true → slot_flow b ≡ Some (flow_in b)
 unfolding slot_flow
-used_flow b used = ap (λ (t : Bool). cond t (some (flow_in b)) none) used
+used_flow b used = ap (λ (t : Bool). cond t (Some (flow_in b)) None) used
 
 -- one that is not used has none
-pub free_flow : (b : List ℕ) → is_used b ≡ false → slot_flow b ≡ none
+pub free_flow : (b : List ℕ) → is_used b ≡ false → slot_flow b ≡ None
 unfolding slot_flow
-free_flow b free = ap (λ (t : Bool). cond t (some (flow_in b)) none) free
+free_flow b free = ap (λ (t : Bool). cond t (Some (flow_in b)) None) free
 
 -- slots seen as the rules' slots, one changed
 pub slots_of_set : (table : List (List ℕ)) (i : ℕ) (b : List ℕ) → slots_of (set table i b) ≡ set (slots_of table) i (slot_flow b)
@@ -251,7 +250,7 @@ slots_of_set (a ∷ table) zero b = refl
 slots_of_set (a ∷ table) (suc i) b = ap {B = Slots engine} (λ l. slot_flow a ∷ l) (slots_of_set table i b)
 
 -- .. and one of them by its number; behind the last there is no flow
-pub slots_of_at : (table : List (List ℕ)) (i : ℕ) → get_or (slots_of table) i none ≡ slot_flow (get_or table i [])
+pub slots_of_at : (table : List (List ℕ)) (i : ℕ) → get_or (slots_of table) i None ≡ slot_flow (get_or table i [])
 unfolding slots_of slot_flow is_used
 slots_of_at table i = get_or-map slot_flow table i []
 
@@ -262,7 +261,7 @@ own_bytes s c i h low used = (h.slots i low used).key
 
 -- what a search by the index finds is the flow under the key
 pub found_under : (s : List ℕ) (c i : ℕ) (key : List ℕ) → SoundFlows s c → i < c → holds key (slot s i) ≡ true
-    → (get_or (slots_of (slots s c)) i none ≡ some (flow_in (slot s i))) × (key ≡ by_key engine (flow_in (slot s i)))
+    → (get_or (slots_of (slots s c)) i None ≡ Some (flow_in (slot s i))) × (key ≡ by_key engine (flow_in (slot s i)))
 found_under s c i key h low held =
     let w = holds_true key (slot s i) held in (
       slots_of_at (slots s c) i ∙ ap slot_flow (get_d_slots s c i low) ∙ used_flow (slot s i) w.0,

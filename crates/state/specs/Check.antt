@@ -1,10 +1,9 @@
 -- The check of a state is exact: it goes on from slot to slot with the index and the list ready for those behind it, and where it stops the
 -- state is not sound. Assumes nothing.
-use Rattle.std.specs.Prelude.{ℕ, ◌+◌, ◌*◌, ◌^◌, ◌≤◌, ◌<◌, ◌≡◌, refl, Bool, List, length, get_or, replicate}
+use Rattle.std.specs.Prelude.{ℕ, ◌+◌, ◌*◌, ◌^◌, ◌≤◌, ◌<◌, ◌≡◌, refl, Bool, List, length, get_or, replicate, None, Some}
 use Rattle.std.proofs.Common.{sym, ◌∙◌, ⊎_elim, arith}
 use Rattle.std.proofs.Math.Path.{ap, subst}
 use Rattle.std.proofs.Math.Bool.{true, false, cond, false≢true}
-use Rattle.std.proofs.Math.Option.{none, some}
 use Rattle.memory.specs.Bytes.{part}
 use Rattle.memory.specs.Decides.{Decides}
 use Rattle.memory.proofs.Laws.{less_or}
@@ -40,16 +39,16 @@ pub record UsedChecked (s : List ℕ) (i : ℕ) (r : Bool) (index index' : List 
   pub put : r ≡ true → Inserted (home (hash_of (key_of (slot s i)))) (entry_of (hash_of (key_of (slot s i))) i) index index'
   pub damaged : r ≡ false → SoundSlot (slot s i) → Alone s i (key_of (slot s i)) → ⊥
 
-some_none : {A : Type 0} {k : FlowKey} → some k ≡ none → A
+some_none : {A : Type 0} {k : FlowKey} → Some k ≡ None → A
 some_none e = absurd (let z : ◌≡◌ {A = ℕ} 0 1 = cc in omega arith)
 
 -- a sound slot's key bytes are a key's
-slot_whole : (b : List ℕ) → SoundSlot b → whole_key (key_of b) ≡ some (key_in b)
+slot_whole : (b : List ℕ) → SoundSlot b → whole_key (key_of b) ≡ Some (key_in b)
 slot_whole b h = whole_no (key_of b) (key_in b) h.in_range h.key
 
 -- the ways out of the test of a used slot
 module _ (s : List ℕ) (i : ℕ) (bytes : List ℕ) (lies : bytes ≡ key_of (slot s i)) (index : List ℕ) where
-  pub no_key : whole_key bytes ≡ none → UsedChecked s i false index index
+  pub no_key : whole_key bytes ≡ None → UsedChecked s i false index index
   no_key e = record {
     slot_sound = λ z. absurd (false≢true z);
     alone = λ z. absurd (false≢true z);
@@ -57,7 +56,7 @@ module _ (s : List ℕ) (i : ℕ) (bytes : List ℕ) (lies : bytes ≡ key_of (s
     damaged = λ z h a. some_none (sym (slot_whole (slot s i) h) ∙ ap whole_key (sym lies) ∙ e);
   }
 
-  module _ (k : FlowKey) (spelt : whole_key bytes ≡ some k) (t : Bool) (tested : WordsTested (words_in (slot s i)) t) where
+  module _ (k : FlowKey) (spelt : whole_key bytes ≡ Some k) (t : Bool) (tested : WordsTested (words_in (slot s i)) t) where
     in_range : KeyInRange k
     in_range = (whole_yes bytes k spelt).0
 
@@ -107,7 +106,7 @@ pub record UsedAsked (s : List ℕ) (i : ℕ) (index : List ℕ) : Type 0 where
   pub indexed : Indexed hash_of index s i
   pub once : NoKeyTwice s i
 
-pub used_adding : (s : List ℕ) (i : ℕ) (index bytes : List ℕ) (k : FlowKey) → UsedAsked s i index → bytes ≡ key_of (slot s i) → whole_key bytes ≡ some k → Adding s i k index
+pub used_adding : (s : List ℕ) (i : ℕ) (index bytes : List ℕ) (k : FlowKey) → UsedAsked s i index → bytes ≡ key_of (slot s i) → whole_key bytes ≡ Some k → Adding s i k index
 used_adding s i index bytes k ask lies spelt =
     let w = whole_yes bytes k spelt in
     record {

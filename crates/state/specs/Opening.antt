@@ -1,5 +1,5 @@
 -- Opening a state: what it answers, every byte that it leaves, and that what it leaves is a fresh engine. Assumes nothing.
-use Rattle.std.specs.Prelude.{ℕ, suc, ◌-◌, ◌+◌, ◌*◌, ◌^◌, ◌≤◌, ◌<◌, ◌≡◌, ◌⊎◌, Bool, true, false, ◌||◌, eqb, ltb, get_or}
+use Rattle.std.specs.Prelude.{ℕ, suc, ◌-◌, ◌+◌, ◌*◌, ◌^◌, ◌≤◌, ◌<◌, ◌≡◌, ◌⊎◌, Bool, true, false, ◌||◌, eqb, ltb, get_or, Err, Ok, Result}
 use Rattle.std.proofs.Math.Path.{refl, ap}
 use Rattle.std.proofs.Common.{sym, ◌∙◌, subst, inl, inr, arith, eqb-true, ltb-true}
 use Rattle.std.proofs.lemmas.Bool.{false≢true, eqb-false}
@@ -24,16 +24,16 @@ use Rattle.rules.specs.Order.{sort}
 use Rattle.rules.specs.Rules.{by_key, settings, fresh}
 use Rattle.rules.specs.Engine.{engine}
 use Rattle.rules.specs.Slots.{occupied}
-use Rattle.state.specs.declared.opening.Opening.{Opening}
 use Rattle.state.specs.State.{header_in, capacity_in, SoundHeader, Queued, SoundFlows, Sound, settings_of, settings_in, slots_of, meaning}
 use Rattle.state.specs.HeaderTest.{capacity_small}
 use Rattle.state.specs.Change.{free_flow}
+use Rattle.forms.specs.declared.refusal.Refusal.{Refusal}
+use Rattle.forms.specs.Refusals.{refusal_number}
 
 -- document 01's number of each answer
-abbrev pub opening_number : Opening → ℕ
-opening_number Opening.Opened = 0
-opening_number Opening.Capacity = 1
-opening_number Opening.Memory = 2
+abbrev pub opening_number : Result Unit Refusal → ℕ
+opening_number (Ok done) = 0
+opening_number (Err why) = refusal_number why
 
 -- the header of an engine that was just opened with a timeout and a resolution
 abbrev pub opened_header : ℕ → Millis → TimeResolution → Header
@@ -49,7 +49,7 @@ p4_held c resolution = refl
 
 -- "Order: 1, 2 at opening"; "Refusals 1, 2, 3 write nothing." Opened, every byte of the four regions is given: header, slots and queue; what
 -- lies beyond is as it was.
-pub record Opened (before : List ℕ) (c : ℕ) (ms : Millis) (resolution : TimeResolution) (r : Opening) (after : List ℕ) : Type 0 where
+pub record Opened (before : List ℕ) (c : ℕ) (ms : Millis) (resolution : TimeResolution) (r : Result Unit Refusal) (after : List ℕ) : Type 0 where
   -- 1 Capacity: "opening with 0 or above 4096"
   pub refused_capacity : (c ≡ 0) ⊎ (4096 < c) → (opening_number r ≡ 1) × (after ≡ before)
   -- 2 Memory: "opening with too few bytes"
@@ -64,7 +64,7 @@ either_true true b e = inl refl
 either_true false b e = inr e
 
 module _ (s : List ℕ) (c : ℕ) (ms : Millis) (resolution : TimeResolution) where
-  pub opens_refused : (eqb c 0 || ltb 4096 c) ≡ true → Opened s c ms resolution Opening.Capacity s
+  pub opens_refused : (eqb c 0 || ltb 4096 c) ≡ true → Opened s c ms resolution (Err Refusal.Capacity) s
   opens_refused e = record {
     refused_capacity = λ z. (refl, refl);
     refused_memory = λ l m z. absurd (outside l m (either_true (eqb c 0) (ltb 4096 c) e));
@@ -83,7 +83,7 @@ module _ (s : List ℕ) (c : ℕ) (ms : Millis) (resolution : TimeResolution) wh
       go false q = eqb-false c 0 q z
   inside e (inr z) = omega (arith, capacity_small c e)
 
-  pub opens_short : (eqb c 0 || ltb 4096 c) ≡ false → length s < 256 + 640 * c → Opened s c ms resolution Opening.Memory s
+  pub opens_short : (eqb c 0 || ltb 4096 c) ≡ false → length s < 256 + 640 * c → Opened s c ms resolution (Err Refusal.Memory) s
   opens_short e short = record {
     refused_capacity = λ z. absurd (inside e z);
     refused_memory = λ l m z. (refl, refl);
@@ -92,7 +92,7 @@ module _ (s : List ℕ) (c : ℕ) (ms : Millis) (resolution : TimeResolution) wh
 
   pub opens : (eqb c 0 || ltb 4096 c) ≡ false → 256 + 640 * c ≤ length s → (idle : Idle) → idle ≡ idle_of ms → (word : ℕ) → word ≡ resolution_number resolution
       → (s' : List ℕ) → length s' ≡ length s → Cleared c (blank_header c idle.timeout idle.lateness word) (view c s) (view c s')
-      → Opened s c ms resolution Opening.Opened s'
+      → Opened s c ms resolution (Ok tt) s'
   opens e long idle i word w s' same k = record {
     refused_capacity = λ z. absurd (inside e z);
     refused_memory = λ l m z. absurd (omega arith);

@@ -1,6 +1,5 @@
 -- Flows that sit in places, some of which are used: what holds of each used place, or of each two, holds of the flows. Assumes nothing.
-use Rattle.std.specs.Prelude.{ℕ, suc, ◌≤◌, ◌<◌, ◌≡◌, refl, Bool, true, false, cond, List, [], ◌∷◌, map, length, get_or}
-use Rattle.std.proofs.Math.Option.{Option, none, some}
+use Rattle.std.specs.Prelude.{ℕ, suc, ◌≤◌, ◌<◌, ◌≡◌, refl, Bool, true, false, cond, List, [], ◌∷◌, map, length, get_or, None, Option, Some}
 use Rattle.std.proofs.Common.{arith}
 use Rattle.rules.specs.Rules.{Terms, Flow}
 use Rattle.rules.specs.Slots.{occupied}
@@ -9,7 +8,7 @@ use Rattle.rules.specs.Totals.{All}
 
 module _ {B : Type 0} (blank : B) (W : Terms) (used : B → Bool) (flow : B → Flow W) where
   abbrev pub sits : B → Option (Flow W)
-  sits b = cond (used b) (some (flow b)) none
+  sits b = cond (used b) (Some (flow b)) None
 
   -- each used place from the first on
   abbrev Each : (Flow W → Type 0) → List B → Type 0
@@ -22,7 +21,7 @@ module _ {B : Type 0} (blank : B) (W : Terms) (used : B → Bool) (flow : B → 
   all_sit P [] a = tt
   all_sit P (b ∷ l) a = go (used b) refl (all_sit P l (each_rest P b l a))
     where
-      go : (t : Bool) → used b ≡ t → All P (occupied W (map sits l)) → All P (occupied W (cond t (some (flow b)) none ∷ map sits l))
+      go : (t : Bool) → used b ≡ t → All P (occupied W (map sits l)) → All P (occupied W (cond t (Some (flow b)) None ∷ map sits l))
       go true e rest = (a 0 (omega arith) e, rest)
       go false e rest = rest
 
@@ -33,7 +32,7 @@ module _ {B : Type 0} (blank : B) (W : Terms) (used : B → Bool) (flow : B → 
   pairs_sit C (b ∷ l) a =
       go (used b) refl (pairs_sit C l (λ i j h k u v. a (suc i) (suc j) (omega arith) (omega arith) u v))
     where
-      go : (t : Bool) → used b ≡ t → Pairs C (occupied W (map sits l)) → Pairs C (occupied W (cond t (some (flow b)) none ∷ map sits l))
+      go : (t : Bool) → used b ≡ t → Pairs C (occupied W (map sits l)) → Pairs C (occupied W (cond t (Some (flow b)) None ∷ map sits l))
       go true e rest = (all_sit (C (flow b)) l (λ j h v. a 0 (suc j) (omega arith) (omega arith) e v), rest)
       go false e rest = rest
 
@@ -41,6 +40,6 @@ module _ {B : Type 0} (blank : B) (W : Terms) (used : B → Bool) (flow : B → 
   few_sit [] = omega arith
   few_sit (b ∷ l) = go (used b) (few_sit l)
     where
-      go : (t : Bool) → length (occupied W (map sits l)) ≤ length l → length (occupied W (cond t (some (flow b)) none ∷ map sits l)) ≤ suc (length l)
+      go : (t : Bool) → length (occupied W (map sits l)) ≤ length l → length (occupied W (cond t (Some (flow b)) None ∷ map sits l)) ≤ suc (length l)
       go true h = omega arith
       go false h = omega arith

@@ -1,6 +1,5 @@
 -- What a slot's bytes say: the flow that sits there, and when they are bytes that a sound flow has. Assumes nothing.
-use Rattle.std.specs.Prelude.{ℕ, ◌^◌, ◌<◌, ◌≡◌, true, cond, List, get_or}
-use Rattle.std.proofs.Math.Option.{Option, none, some}
+use Rattle.std.specs.Prelude.{ℕ, ◌^◌, ◌<◌, ◌≡◌, true, cond, List, get_or, None, Option, Some}
 use Rattle.memory.specs.Bytes.{words_at}
 use Rattle.slots.specs.Table.{key_of, is_used}
 use Rattle.words.specs.Words.{record_of, words_fit}
@@ -27,7 +26,7 @@ flow_in b = record { name = key_in b; held = record_in b }
 
 -- the flow of a slot that is used
 unfoldable pub slot_flow : List ℕ → Option (Flow engine)
-slot_flow b = cond (is_used b) (some (flow_in b)) none
+slot_flow b = cond (is_used b) (Some (flow_in b)) None
 
 -- the bytes are those of a flow, and "every flow's record sound, end reason aside". A direction's FIN mark is its fin count above 0, and
 -- has no bytes of its own.

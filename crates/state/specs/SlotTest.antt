@@ -1,18 +1,14 @@
 -- The tests of one slot are exact. Assumes nothing.
-use Rattle.std.specs.Prelude.{ℕ, ◌+◌, ◌*◌, ◌-◌, ◌^◌, ◌≤◌, ◌<◌, ◌≡◌, refl, Bool, true, false, not, cond, ◌&&◌, List, [], ◌∷◌, ◌++◌, eqb, leb, length, get_or, take, drop}
+use Rattle.std.specs.Prelude.{ℕ, ◌+◌, ◌*◌, ◌-◌, ◌^◌, ◌≤◌, ◌<◌, ◌≡◌, refl, Bool, true, false, not, cond, ◌&&◌, List, [], ◌∷◌, ◌++◌, eqb, leb, length, get_or, take, drop, None, Option, Some, Err, Ok, Result, is_some}
 use Rattle.std.proofs.Math.Path.{sym, ap}
 use Rattle.std.proofs.Common.{◌∙◌, subst, append-nil, arith, length-append, take_at, eq-eqb, ne_eqb, eqb-true, le-leb, leb-true}
 use Rattle.std.proofs.lemmas.Bool.{false≢true}
-use Rattle.std.proofs.Math.Option.{Option, none, some}
 use Rattle.memory.specs.Decides.{Decides}
 use Rattle.queue.specs.Tree.{never}
 use Rattle.forms.specs.Lone.{Answer, value, refusal, read_one}
 use Rattle.forms.specs.Length.{Sized}
 use Rattle.forms.specs.Put.{Put, put_front}
-use Rattle.forms.specs.declared.place.Place.{Place}
-use Rattle.forms.specs.declared.place.Place.TheVariants.{At, Full}
 use Rattle.slots.specs.Table.{slot, slots, key_of, holds, first_where, NoKeyTwice}
-use Rattle.slots.specs.declared.Found.{Found}
 use Rattle.index.specs.Index.{Indexed, Inserted, home, entry_of, hash_absent, taken}
 use Rattle.index.specs.Hash.{hash_of, key_from_lem, hash_of_lem, hash_reversed}
 use Rattle.index.specs.Reversed.{Absent}
@@ -26,10 +22,9 @@ use Rattle.flow.specs.declared.record.FlowRecord.{FlowRecord}
 use Rattle.key.specs.Endpoints.{has_reverse_direction}
 use Rattle.key.specs.Key.{reversed_key, reversed_twice}
 use Rattle.key.specs.Shard.{shard_of}
-use Rattle.key.specs.KeyForm.{key, key_read}
+use Rattle.key.specs.KeyForm.{key}
 use Rattle.key.specs.KeyTheorems.{KeyInRange, key_in_range, key_read_back, key_was_written}
 use Rattle.key.specs.declared.key.FlowKey.{FlowKey}
-use Rattle.key.specs.declared.form.ReadKey.{ReadKey}
 use Rattle.rules.specs.Engine.{key_bytes, is_association}
 use Rattle.rules.proofs.EngineTermsLaws.{reversed_in_range, engine_keys}
 use Rattle.plain.specs.Plain as Plainly
@@ -37,49 +32,41 @@ use Rattle.plain.specs.Plain.{plain_at}
 use Rattle.plain.specs.Laid.{at_back}
 use Rattle.plain.specs.PlainLaws.{plain_read, plain_hash_lem, plain_bytes_lem}
 use Rattle.plain.specs.declared.Plain.{Plain}
-use Rattle.plain.specs.declared.PlainAt.{PlainAt}
-use Rattle.state.specs.declared.check.PlainHash.{PlainHash}
-use Rattle.state.specs.declared.slot.WholeKey.{WholeKey}
 use Rattle.state.specs.Slot.{words_in}
 use Rattle.state.specs.State.{turned, one_way, Queued}
+use Rattle.forms.specs.Answers.{answer_of}
+use Rattle.forms.specs.declared.refusal.Refusal.{Refusal}
 
 -- ## The key that all of some bytes spell
 
 abbrev pub whole_of : Answer FlowKey → ℕ → Option FlowKey
-whole_of (value k used) n = cond (eqb used n) (some k) none
-whole_of (refusal r) n = none
+whole_of (value k used) n = cond (eqb used n) (Some k) None
+whole_of (refusal r) n = None
 
 unfoldable pub whole_key : List ℕ → Option FlowKey
 whole_key bytes = whole_of (read_one 4 key bytes) (length bytes)
 
-abbrev pub key_answer : WholeKey → Option FlowKey
-key_answer (WholeKey.Key k) = some k
-key_answer WholeKey.Other = none
-
-module _ (bytes : List ℕ) (r : ReadKey) (answer : key_read r ≡ read_one 4 key bytes) where
-  pub whole_read : (k : FlowKey) (used : ℕ) → r ≡ ReadKey.Value k used → used ≡ length bytes → some k ≡ whole_key bytes
+module _ (bytes : List ℕ) (r : Result (FlowKey × ℕ) Refusal) (answer : answer_of r ≡ read_one 4 key bytes) where
+  pub whole_read : (k : FlowKey) (used : ℕ) → r ≡ Ok (k, used) → used ≡ length bytes → Some k ≡ whole_key bytes
   unfolding whole_key
   whole_read k used e full =
-      sym (ap (λ (x : Answer FlowKey). whole_of x (length bytes)) (sym answer) ∙ ap (λ (x : ReadKey). whole_of (key_read x) (length bytes)) e ∙ rw (eq-eqb used (length bytes) full))
+      sym (ap (λ (x : Answer FlowKey). whole_of x (length bytes)) (sym answer) ∙ ap (λ (x : Result (FlowKey × ℕ) Refusal). whole_of (answer_of x) (length bytes)) e ∙ rw (eq-eqb used (length bytes) full))
 
-  pub part_read : (k : FlowKey) (used : ℕ) → r ≡ ReadKey.Value k used → (used ≡ length bytes → ⊥) → none ≡ whole_key bytes
+  pub part_read : (k : FlowKey) (used : ℕ) → r ≡ Ok (k, used) → (used ≡ length bytes → ⊥) → None ≡ whole_key bytes
   unfolding whole_key
   part_read k used e less =
-      sym (ap (λ (x : Answer FlowKey). whole_of x (length bytes)) (sym answer) ∙ ap (λ (x : ReadKey). whole_of (key_read x) (length bytes)) e ∙ rw (ne_eqb used (length bytes) less))
+      sym (ap (λ (x : Answer FlowKey). whole_of x (length bytes)) (sym answer) ∙ ap (λ (x : Result (FlowKey × ℕ) Refusal). whole_of (answer_of x) (length bytes)) e ∙ rw (ne_eqb used (length bytes) less))
 
-  pub packet_read_lem : r ≡ ReadKey.Packet → none ≡ whole_key bytes
+  pub refused_read : (why : Refusal) → r ≡ Err why → None ≡ whole_key bytes
   unfolding whole_key
-  packet_read_lem e = sym (ap (λ (x : Answer FlowKey). whole_of x (length bytes)) (sym answer) ∙ ap (λ (x : ReadKey). whole_of (key_read x) (length bytes)) e)
+  refused_read why e =
+      sym (ap (λ (x : Answer FlowKey). whole_of x (length bytes)) (sym answer) ∙ ap (λ (x : Result (FlowKey × ℕ) Refusal). whole_of (answer_of x) (length bytes)) e)
 
-  pub short_read : r ≡ ReadKey.Short → none ≡ whole_key bytes
-  unfolding whole_key
-  short_read e = sym (ap (λ (x : Answer FlowKey). whole_of x (length bytes)) (sym answer) ∙ ap (λ (x : ReadKey). whole_of (key_read x) (length bytes)) e)
-
-pub whole_yes : (bytes : List ℕ) (k : FlowKey) → whole_key bytes ≡ some k → KeyInRange k × (key_bytes k ≡ bytes)
+pub whole_yes : (bytes : List ℕ) (k : FlowKey) → whole_key bytes ≡ Some k → KeyInRange k × (key_bytes k ≡ bytes)
 unfolding whole_key
 whole_yes bytes k e = go (read_one 4 key bytes) refl e
   where
-    full : (t : Bool) (l : FlowKey) (used : ℕ) → read_one 4 key bytes ≡ value l used → eqb used (length bytes) ≡ t → cond t (some l) none ≡ some k
+    full : (t : Bool) (l : FlowKey) (used : ℕ) → read_one 4 key bytes ≡ value l used → eqb used (length bytes) ≡ t → cond t (Some l) None ≡ Some k
         → KeyInRange k × (key_bytes k ≡ bytes)
     full true l used a q w =
         let (rest, ok, is, many) = key_was_written bytes l used a in
@@ -92,11 +79,11 @@ whole_yes bytes k e = go (read_one 4 key bytes) refl e
         empty (y ∷ x) z = absurd (omega arith)
     full false l used a q w = absurd (let z : ◌≡◌ {A = ℕ} 0 1 = cc in omega arith)
 
-    go : (a : Answer FlowKey) → read_one 4 key bytes ≡ a → whole_of a (length bytes) ≡ some k → KeyInRange k × (key_bytes k ≡ bytes)
+    go : (a : Answer FlowKey) → read_one 4 key bytes ≡ a → whole_of a (length bytes) ≡ Some k → KeyInRange k × (key_bytes k ≡ bytes)
     go (value l used) q w = full (eqb used (length bytes)) l used q refl w
     go (refusal n) q w = absurd (let z : ◌≡◌ {A = ℕ} 0 1 = cc in omega arith)
 
-pub whole_no : (bytes : List ℕ) (k : FlowKey) → KeyInRange k → key_bytes k ≡ bytes → whole_key bytes ≡ some k
+pub whole_no : (bytes : List ℕ) (k : FlowKey) → KeyInRange k → key_bytes k ≡ bytes → whole_key bytes ≡ Some k
 unfolding whole_key
 whole_no bytes k ok e =
     ap (λ (x : List ℕ). whole_of (read_one 4 key x) (length x)) (sym e)
@@ -109,20 +96,20 @@ whole_no bytes k ok e =
 -- h is the hash of the key that the slot's key bytes spell
 pub record HashSpelt (b : List ℕ) (h : ℕ) : Type 0 where
   pub own_key : FlowKey
-  pub spelt : whole_key (key_of b) ≡ some own_key
+  pub spelt : whole_key (key_of b) ≡ Some own_key
   pub hash : h ≡ shard_of own_key 524288
 
 -- nothing is said of a slot where the answer is Other
-abbrev pub PlainHashed : List ℕ → PlainHash → Type 0
-PlainHashed b (PlainHash.Hash h) = HashSpelt b h
-PlainHashed b PlainHash.Other = Unit {0}
+abbrev pub PlainHashed : List ℕ → Option ℕ → Type 0
+PlainHashed b (Some h) = HashSpelt b h
+PlainHashed b None = Unit {0}
 
-pub hash_told : (b : List ℕ) (r : PlainHash) (h : ℕ) → PlainHashed b r → r ≡ PlainHash.Hash h → HashSpelt b h
+pub hash_told : (b : List ℕ) (r : Option ℕ) (h : ℕ) → PlainHashed b r → r ≡ Some h → HashSpelt b h
 hash_told b r h told e = subst (PlainHashed b) e told
 
 -- a plain key that ends where the slot's key bytes do is what they spell, though its reader may look at what stands behind them
 pub plain_spelt : (s : List ℕ) (i n : ℕ) (p : Plain) → 256 + 624 * i + 624 ≤ length s → n < 256 → get_or s (256 + 624 * i + 1) 0 ≡ n
-    → PlainAt.Key p ≡ plain_at s (256 + 624 * i + 2) → p.next ≡ 256 + 624 * i + 2 + n → HashSpelt (slot s i) p.hash
+    → Some p ≡ plain_at s (256 + 624 * i + 2) → p.next ≡ 256 + 624 * i + 2 + n → HashSpelt (slot s i) p.hash
 unfolding part
 plain_spelt s i n p fits byte long seen ends =
     let from = 256 + 624 * i + 2 in
@@ -251,13 +238,9 @@ turned_hash k h ok e = e ∙ sym (hash_reversed k ok (reversed_in_range k ok))
 
 -- ## What a search says of a key
 
-abbrev pub found_it : Found → Bool
-found_it (Found.At i) = true
-found_it Found.Nothing = false
-
-pub found_denies : (s : List ℕ) (c : ℕ) (bytes : List ℕ) (f : Found) (r : Bool) → f ≡ first_where (holds bytes) 0 (slots s c) → r ≡ found_it f → Denies r (Absent s c bytes)
-found_denies s c bytes Found.Nothing r e t = (λ z. not_found_absent s c bytes (sym e), λ y. absurd (false≢true (sym t ∙ y)))
-found_denies s c bytes (Found.At i) r e t =
+pub found_denies : (s : List ℕ) (c : ℕ) (bytes : List ℕ) (f : Option ℕ) (r : Bool) → f ≡ first_where (holds bytes) 0 (slots s c) → r ≡ is_some f → Denies r (Absent s c bytes)
+found_denies s c bytes None r e t = (λ z. not_found_absent s c bytes (sym e), λ y. absurd (false≢true (sym t ∙ y)))
+found_denies s c bytes (Some i) r e t =
     (λ z. absurd (false≢true (sym z ∙ t)), λ y a. let w = e ∙ absent_not_found s c bytes a in let z : ◌≡◌ {A = ℕ} 0 1 = cc in omega arith)
 
 -- ## The key of a slot against those before it
@@ -300,19 +283,19 @@ module _ (s : List ℕ) (i : ℕ) (k : FlowKey) (own : Bool) (first : Denies own
       (λ z. record { own = first.0 e; other = λ q. absurd (false≢true (sym q ∙ one)) }, λ y a. absurd (false≢true y))
 
 -- the reversed key's form written at the front: the place behind it is its length
-pub reversed_placed : (k l : FlowKey) (before after : List ℕ) (n : ℕ) (p : Place) → l ≡ reversed_key k → Put before (At 0) (key_bytes l) after p → p ≡ At n
+pub reversed_placed : (k l : FlowKey) (before after : List ℕ) (n : ℕ) (p : Option ℕ) → l ≡ reversed_key k → Put before (Some 0) (key_bytes l) after p → p ≡ Some n
     → FrontWritten (key_bytes (reversed_key k)) before after n
 reversed_placed k l before after n p e put here =
     subst (λ (x : FlowKey). FrontWritten (key_bytes x) before after n) e (go (leb (0 + length (key_bytes l)) (length before)) refl (sym here ∙ put.next))
   where
-    go : (t : Bool) → leb (0 + length (key_bytes l)) (length before) ≡ t → At n ≡ cond t (At (0 + length (key_bytes l))) Full → FrontWritten (key_bytes l) before after n
+    go : (t : Bool) → leb (0 + length (key_bytes l)) (length before) ≡ t → Some n ≡ cond t (Some (0 + length (key_bytes l))) None → FrontWritten (key_bytes l) before after n
     go true h q =
         let same : n ≡ 0 + length (key_bytes l) = cc in
         record { length_is = omega arith; front = put_front put (omega (arith, leb-true (0 + length (key_bytes l)) (length before) h)) }
     go false h q = let z : ◌≡◌ {A = ℕ} 0 1 = cc in absurd (omega arith)
 
-pub reversed_written : (k l : FlowKey) (before after : List ℕ) (r : ℕ) (p : Place) → l ≡ reversed_key k → Sized (key_bytes l) 128 r → 128 ≤ length before
-    → Put before (At 0) (key_bytes l) after p → FrontWritten (key_bytes (reversed_key k)) before after r
+pub reversed_written : (k l : FlowKey) (before after : List ℕ) (r : ℕ) (p : Option ℕ) → l ≡ reversed_key k → Sized (key_bytes l) 128 r → 128 ≤ length before
+    → Put before (Some 0) (key_bytes l) after p → FrontWritten (key_bytes (reversed_key k)) before after r
 reversed_written k l before after r p e sized long put =
     subst (λ (x : FlowKey). FrontWritten (key_bytes x) before after r) e
     (record { length_is = sized.length_is; front = put_front put (omega (arith, sized.length_is, sized.fits)) })
@@ -326,7 +309,7 @@ module _ (s : List ℕ) (i : ℕ) (k : FlowKey) (h : ℕ) (index : List ℕ) (as
   pub reversed_asked : (256 + 640 * i ≤ length s) × Indexed hash_of index s i × NoKeyTwice s i × (h ≡ hash_of bytes)
   reversed_asked = (ask.size, ask.indexed, ask.once, turned_hash k h ask.in_range ask.hash ∙ ap hash_of (sym searched_bytes))
 
-  pub reversed_told : (f : Found) (r : Bool) → f ≡ first_where (holds bytes) 0 (slots s i) → r ≡ found_it f → Denies r (Absent s i (key_bytes (reversed_key k)))
+  pub reversed_told : (f : Option ℕ) (r : Bool) → f ≡ first_where (holds bytes) 0 (slots s i) → r ≡ is_some f → Denies r (Absent s i (key_bytes (reversed_key k)))
   reversed_told f r e t = found_denies s i (key_bytes (reversed_key k)) f r (e ∙ ap (λ (x : List ℕ). first_where (holds x) 0 (slots s i)) searched_bytes) t
 
 -- the search under the slot's own key
@@ -335,7 +318,7 @@ module _ (s : List ℕ) (i : ℕ) (k : FlowKey) (h : ℕ) (index : List ℕ) (as
   pub own_asked : (256 + 640 * i ≤ length s) × Indexed hash_of index s i × NoKeyTwice s i × (h ≡ hash_of bytes)
   own_asked = (ask.size, ask.indexed, ask.once, ask.hash ∙ ap hash_of (own ∙ sym lies))
 
-  pub own_told : (f : Found) (r : Bool) → f ≡ first_where (holds bytes) 0 (slots s i) → r ≡ found_it f → Denies r (Absent s i (key_bytes k))
+  pub own_told : (f : Option ℕ) (r : Bool) → f ≡ first_where (holds bytes) 0 (slots s i) → r ≡ is_some f → Denies r (Absent s i (key_bytes k))
   own_told f r e t = found_denies s i (key_bytes k) f r (e ∙ ap (λ (x : List ℕ). first_where (holds x) 0 (slots s i)) (lies ∙ sym own)) t
 
 -- ## A slot's key is put into the index

@@ -12,32 +12,25 @@ ghost use Rattle.state.specs.Check.{UsedAsked, UsedChecked, PlaceAsked, PlaceChe
 use crate::free;
 use crate::header::header_is_sound;
 use crate::keys::add_key;
-use crate::slot::{WholeKey, entry_is_sound, record_is_sound, whole_key};
+use crate::slot::{entry_is_sound, record_is_sound, whole_key};
 use flow::time::Nanos;
-use plain::{PlainAt, plain_at};
-
-// The hash of a slot's key, where that is a plain one.
-#[derive(Clone, Copy)]
-enum PlainHash {
-    Hash(u64),
-    Other,
-}
+use plain::plain_at;
 
 // Slot i's, read where its key lies: no key is made of the bytes.
-fn plain_hash(state: &[u8], i: usize) -> PlainHash
+fn plain_hash(state: &[u8], i: usize) -> Option<u64>
     requires { 256 + 624 * i + 624 ≤ length state.now }
     ensures { PlainHashed (slot state.now i) result }
 {
     let base = 256 + 624 * i;
     let from = base + 2;
     match plain_at(state, from) {
-        PlainAt::Key(key) => {
+        Some(key) => {
             if key.next == from + state[base + 1] as usize {
-                return PlainHash::Hash(key.hash);
+                return Some(key.hash);
             }
-            PlainHash::Other
+            None
         }
-        PlainAt::Other => PlainHash::Other,
+        None => None,
     }
 }
 
@@ -60,7 +53,7 @@ fn check_any(state: &[u8], i: usize, index: &mut [u32]) -> bool
     requires { UsedAsked state.now i index.old }
     ensures { UsedChecked state.now i result index.old index.new }
 {
-    let WholeKey::Key(key) = whole_key(slots::key_of(state, i)) else {
+    let Some(key) = whole_key(slots::key_of(state, i)) else {
         return false;
     };
     if record_is_sound(state, i) {
@@ -75,7 +68,7 @@ fn check_used(state: &[u8], i: usize, index: &mut [u32]) -> bool
     requires { UsedAsked state.now i index.old }
     ensures { UsedChecked state.now i result index.old index.new }
 {
-    if let PlainHash::Hash(hash) = plain_hash(state, i) {
+    if let Some(hash) = plain_hash(state, i) {
         if index::is_absent(index, hash) {
             return check_new(state, i, hash, index);
         }

@@ -6,12 +6,13 @@ use flow::time::{Idle, Nanos};
 use table::Header;
 
 // T is a whole number of milliseconds or held at the top, and L follows from it.
+#[tactic(auto, using(crate::specs::HeaderTest::times_told))]
 fn times_are_given(timeout: Nanos, lateness: Nanos) -> bool
     ensures { result ≡ times_given timeout.0 lateness.0 }
 {
     let t = timeout.0;
     ((t % 1_000_000 == 0) | (t == 0xffff_ffff_ffff_ffff))
-        & (lateness.0 == arith::lesser64(Idle::MAX_LATENESS, t / 2))
+        & (lateness.0 == Idle::MAX_LATENESS.min(t / 2))
 }
 
 // Whether a header is one that opening gives, perhaps with another clock, and the memory is long enough for its capacity.

@@ -1,24 +1,13 @@
 // Keys of slots: whether one stands already, as it is or reversed.
-ghost use Rattle.std.specs.Prelude.{◌≡◌, ◌+◌, ◌*◌, ◌≤◌, length, take};
+ghost use Rattle.std.specs.Prelude.{◌≡◌, ◌+◌, ◌*◌, ◌≤◌, length, take, is_some};
 ghost use Rattle.slots.specs.Table.{slot, key_of};
 ghost use Rattle.index.specs.Reversed.{Absent};
 ghost use Rattle.key.specs.Key.{reversed_key};
 ghost use Rattle.rules.specs.Engine.{key_bytes};
-ghost use Rattle.state.specs.SlotTest.{found_it, Alone, Denies, Searched, Adding, KeyAdded, FrontWritten};
+ghost use Rattle.state.specs.SlotTest.{Alone, Denies, Searched, Adding, KeyAdded, FrontWritten};
 
-use forms::place::Place;
 use key::form::{key_len, write_key_at};
 use key::key::FlowKey;
-use slots::Found;
-
-pub fn is_found(found: Found) -> bool
-    ensures { result ≡ found_it found }
-{
-    match found {
-        Found::At(_) => true,
-        Found::Nothing => false,
-    }
-}
 
 // The reversed key's form at the front of `bytes`, and its length.
 pub fn write_reversed(bytes: &mut [u8], key: FlowKey) -> usize
@@ -26,10 +15,10 @@ pub fn write_reversed(bytes: &mut [u8], key: FlowKey) -> usize
     ensures { FrontWritten (key_bytes (reversed_key key)) bytes.old bytes.new result }
 {
     let reversed = key.reversed();
-    match write_key_at(bytes, Place::At(0), reversed) {
-        Place::At(n) => n,
+    match write_key_at(bytes, Some(0), reversed) {
+        Some(n) => n,
         // Never, since 128 bytes hold every key.
-        Place::Full => key_len(reversed),
+        None => key_len(reversed),
     }
 }
 
@@ -48,7 +37,7 @@ fn reverse_stands(state: &[u8], i: usize, key: FlowKey, hash: u64, index: &[u32]
 {
     let mut bytes = [0u8; 128];
     let n = write_reversed(&mut bytes, key);
-    is_found(index::find(index, state, i, front(&bytes, n), hash))
+    index::find(index, state, i, front(&bytes, n), hash).is_some()
 }
 
 // Whether a slot before i is used under the key of slot i, or under its reverse unless the key is a security association's.
@@ -58,11 +47,10 @@ fn key_stands(state: &[u8], i: usize, key: FlowKey, hash: u64, index: &[u32]) ->
     requires i_in_bounds { 256 + 624 * i + 624 ≤ length state.now }
     ensures { Denies result (Alone state.now i (key_bytes key)) }
 {
-    if is_found(index::find(index, state, i, slots::key_of(state, i), hash)) {
+    if index::find(index, state, i, slots::key_of(state, i), hash).is_some() {
         return true;
     }
-    let endpoints = key.endpoints;
-    if endpoints.has_reverse_direction() {
+    if key.endpoints.has_reverse_direction() {
         return reverse_stands(state, i, key, hash, index);
     }
     false

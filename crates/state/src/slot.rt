@@ -5,36 +5,23 @@ ghost use Rattle.slots.specs.Table.{slot};
 ghost use Rattle.table.specs.View.{view};
 ghost use Rattle.table.specs.Due.{due_of};
 ghost use Rattle.state.specs.State.{Queued};
-ghost use Rattle.state.specs.SlotTest.{whole_key, key_answer, WordsTested};
+ghost use Rattle.state.specs.SlotTest.{whole_key, WordsTested};
 ghost use Rattle.state.specs.Slot.{words_in};
 
 use flow::sound::sound_aside;
 use flow::time::Nanos;
-use key::form::{ReadKey, read_key};
+use key::form::read_key;
 use key::key::FlowKey;
 use words::words::{record_of, words_fit};
 
-// A key's form, read whole.
-#[derive(Clone, Copy)]
-pub enum WholeKey {
-    Key(FlowKey),
-    Other,
-}
-
 // The key that all of the bytes spell, if they spell one.
-pub fn whole_key(bytes: &[u8]) -> WholeKey
-    ensures { key_answer result ≡ whole_key bytes.now }
+pub fn whole_key(bytes: &[u8]) -> Option<FlowKey>
+    ensures { result ≡ whole_key bytes.now }
 {
-    match read_key(bytes) {
-        ReadKey::Value(key, used) => {
-            if used == bytes.len() {
-                return WholeKey::Key(key);
-            }
-            WholeKey::Other
-        }
-        ReadKey::Packet => WholeKey::Other,
-        ReadKey::Short => WholeKey::Other,
-    }
+    let Ok((key, used)) = read_key(bytes) else {
+        return None;
+    };
+    if used == bytes.len() { Some(key) } else { None }
 }
 
 // Whether words are those of a sound record, end reason aside.
@@ -73,5 +60,5 @@ pub fn entry_is_sound(state: &[u8], capacity: usize, timeout: Nanos, i: usize) -
         return due == queue::NEVER;
     }
     let end = table::end_of(state, i);
-    (due != queue::NEVER) & (arith::saturating_sub(due, end) <= timeout.0)
+    (due != queue::NEVER) & (due.saturating_sub(end) <= timeout.0)
 }

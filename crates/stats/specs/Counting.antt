@@ -2,7 +2,7 @@
 use Rattle.std.specs.Prelude.{ℕ, ◌+◌, ◌/◌, ◌%◌, ◌-◌, ◌^◌, ◌<◌, ◌≤◌}
 use Rattle.stats.specs.declared.counts.TcpFlagCounts.{TcpFlagCounts}
 use Rattle.stats.specs.declared.counts.DirectionStats.{DirectionStats}
-use Rattle.stats.specs.Range.{widened32}
+use Rattle.stats.specs.Range.{widened}
 
 -- The set flags are a mask: from bit 0 fin, syn, rst, psh, ack, urg, ece, cwr, ns.
 
@@ -25,7 +25,7 @@ abbrev pub counted_direction : DirectionStats → ℕ → ℕ → DirectionStats
 counted_direction d octets mask = record {
   packets = d.packets + 1;
   frame_octets = d.frame_octets + octets;
-  packet_length = widened32 d.packet_length octets;
+  packet_length = widened d.packet_length octets;
   tcp_flags = counted_flags d.tcp_flags mask;
 }
 

@@ -2,12 +2,10 @@
 ghost use Rattle.std.specs.Prelude.{◌≡◌, eqb, ◌+◌, ◌/◌, ◌%◌};
 ghost use Rattle.stats.specs.Counting.{counted_flags, counted_direction, RoomForFlags, RoomForPacket};
 
-use crate::range;
-use crate::range::{OptRange8, OptRange32};
-use forms::optional::{OptU8, OptU16};
+use crate::range::Range;
 
 // How many packets in one direction carried each TCP control bit.
-#[derive(Clone, Copy)]
+#[derive(Clone, Copy, Debug, PartialEq, Eq)]
 pub struct TcpFlagCounts {
     pub fin: u64,
     pub syn: u64,
@@ -21,30 +19,30 @@ pub struct TcpFlagCounts {
 }
 
 // What one direction of a flow carried.
-#[derive(Clone, Copy)]
+#[derive(Clone, Copy, Debug, PartialEq, Eq)]
 pub struct DirectionStats {
     pub packets: u64,
     pub frame_octets: u64,
-    pub packet_length: OptRange32,
+    pub packet_length: Option<Range<u32>>,
     pub tcp_flags: TcpFlagCounts,
 }
 
 // Network-layer properties observed across the flow.
-#[derive(Clone, Copy)]
+#[derive(Clone, Copy, Debug, PartialEq, Eq)]
 pub struct NetworkStats {
-    pub ttl: OptRange8,
-    pub dscp: OptU8,
-    pub ecn: OptU8,
+    pub ttl: Option<Range<u8>>,
+    pub dscp: Option<u8>,
+    pub ecn: Option<u8>,
 }
 
 // ICMP is 256 times its type plus its code.
-#[derive(Clone, Copy)]
+#[derive(Clone, Copy, Debug, PartialEq, Eq)]
 pub struct TransportStats {
-    pub icmp: OptU16,
+    pub icmp: Option<u16>,
 }
 
 // How much of the traffic the capture actually saw.
-#[derive(Clone, Copy)]
+#[derive(Clone, Copy, Debug, PartialEq, Eq)]
 pub struct CaptureStats {
     pub captured_octets: u64,
     pub truncated: bool,
@@ -76,13 +74,11 @@ impl DirectionStats {
         requires { RoomForPacket self frame_octets }
         ensures { result ≡ counted_direction self frame_octets mask }
     {
-        let length = self.packet_length;
-        let flags = self.tcp_flags;
         DirectionStats {
             packets: self.packets + 1,
             frame_octets: self.frame_octets + frame_octets as u64,
-            packet_length: range::observe32(length, frame_octets),
-            tcp_flags: flags.count(mask),
+            packet_length: Range::observe(self.packet_length, frame_octets),
+            tcp_flags: self.tcp_flags.count(mask),
         }
     }
 

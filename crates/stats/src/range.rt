@@ -1,87 +1,44 @@
-// The smallest and largest value seen, for 32 and for 8 bits. A range with no observations behind it is absent: seeding one from
-// zero would report a minimum that nothing ever measured.
+//! The smallest and largest value seen. A range with no observations behind it is absent: seeding one from zero would report a
+//! minimum that nothing ever measured.
+
 ghost use Rattle.std.specs.Prelude.{◌≡◌};
-ghost use Rattle.stats.specs.Range.{at32, extended32, widened32, at8, extended8, widened8};
+ghost use Rattle.stats.specs.Range.{at, extended_in, widened_in};
 
-#[derive(Clone, Copy)]
-pub struct Range32 {
-    pub min: u32,
-    pub max: u32,
+/// The smallest and largest value seen.
+#[derive(Clone, Copy, Debug, PartialEq, Eq)]
+pub struct Range<T> {
+    pub min: T,
+    pub max: T,
 }
 
-#[derive(Clone, Copy)]
-pub enum OptRange32 {
-    Absent,
-    Present(Range32),
-}
-
-#[derive(Clone, Copy)]
-pub struct Range8 {
-    pub min: u8,
-    pub max: u8,
-}
-
-#[derive(Clone, Copy)]
-pub enum OptRange8 {
-    Absent,
-    Present(Range8),
-}
-
-impl Range32 {
-    pub fn at(value: u32) -> Range32
-        ensures { result ≡ at32 value }
+impl<T: Ord + Copy> Range<T> {
+    /// A range of one value.
+    pub fn at(value: T) -> Range<T>
+        ensures { result ≡ at value }
     {
-        Range32 {
+        Range {
             min: value,
             max: value,
         }
     }
 
-    pub fn extend(self, value: u32) -> Range32
-        ensures { result ≡ extended32 self value }
+    /// The range with the value in it.
+    pub fn extend(self, value: T) -> Range<T>
+        ensures { result ≡ extended_in T.cmp self value }
     {
-        Range32 {
-            min: arith::lesser32(self.min, value),
-            max: arith::greater32(self.max, value),
-        }
-    }
-}
-
-impl Range8 {
-    pub fn at(value: u8) -> Range8
-        ensures { result ≡ at8 value }
-    {
-        Range8 {
-            min: value,
-            max: value,
+        Range {
+            min: self.min.min(value),
+            max: self.max.max(value),
         }
     }
 
-    pub fn extend(self, value: u8) -> Range8
-        ensures { result ≡ extended8 self value }
+    /// Widen `range`, starting it if this is the first value.
+    pub fn observe(range: Option<Range<T>>, value: T) -> Option<Range<T>>
+        ensures { result ≡ widened_in T.cmp range value }
     {
-        Range8 {
-            min: arith::lesser8(self.min, value),
-            max: arith::greater8(self.max, value),
+        match range {
+            None => Some(Range::at(value)),
+            Some(old) => Some(old.extend(value)),
         }
-    }
-}
-
-// Widen `range`, starting it if this is the first value.
-pub fn observe32(range: OptRange32, value: u32) -> OptRange32
-    ensures { result ≡ widened32 range value }
-{
-    match range {
-        OptRange32::Absent => OptRange32::Present(Range32::at(value)),
-        OptRange32::Present(old) => OptRange32::Present(old.extend(value)),
-    }
-}
-
-pub fn observe8(range: OptRange8, value: u8) -> OptRange8
-    ensures { result ≡ widened8 range value }
-{
-    match range {
-        OptRange8::Absent => OptRange8::Present(Range8::at(value)),
-        OptRange8::Present(old) => OptRange8::Present(old.extend(value)),
     }
 }

@@ -1,6 +1,9 @@
 -- What each call of the engine promises: one answer, one meaning of the state, one output; what lies beyond is as it was. A promise holds for
 -- memory of any bytes: where the state is not sound the call refuses with 3 and does nothing. Assumes nothing.
-use Rattle.std.specs.Prelude.{ℕ, ◌≡◌, List, map, ◌++◌, length, drop}
+use Rattle.std.specs.Prelude.{ℕ, ◌≡◌, List, map, ◌++◌, length, drop, Result, Ok, Err}
+use Rattle.forms.specs.Refusals.{refusal_number}
+use Rattle.forms.specs.declared.refusal.Refusal.{Refusal}
+use Rattle.sweeps.specs.declared.sweep.HandedOut.{HandedOut}
 use Rattle.memory.specs.Bytes.{part}
 use Rattle.queue.specs.Tree.{node}
 use Rattle.table.specs.View.{View, view}
@@ -16,6 +19,19 @@ pub record Left (v v' : View) : Type 0 where
   pub spare_slots : map (drop 376) v'.table ≡ map (drop 376) v.table
   pub spare_node : node v'.tree 0 ≡ node v.tree 0
   pub rest : v'.rest ≡ v.rest
+
+-- what a sweep or a drain answers, in numbers: the refusal's, or 0, and the records handed out, with the bytes that they fill
+abbrev pub number_in : Result HandedOut Refusal → ℕ
+number_in (Ok handed) = 0
+number_in (Err why) = refusal_number why
+
+abbrev pub records_in : Result HandedOut Refusal → ℕ
+records_in (Ok handed) = handed.records
+records_in (Err why) = 0
+
+abbrev pub bytes_in : Result HandedOut Refusal → ℕ
+bytes_in (Ok handed) = handed.bytes
+bytes_in (Err why) = 0
 
 -- a call did what the plain rules tell
 pub record Did (told : Told engine) (before room : List ℕ) (refusal records bytes : ℕ) (after out : List ℕ) : Type 0 where

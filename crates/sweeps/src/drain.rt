@@ -1,13 +1,14 @@
-// A drain: every flow is handed out, or where the records do not fit, nothing is done.
+//! A drain: every flow is handed out, or where the records do not fit, nothing is done.
 ghost use Rattle.std.specs.Prelude.{length};
 ghost use Rattle.rules.specs.Rules.{drain_all};
 ghost use Rattle.rules.specs.Engine.{engine};
 ghost use Rattle.state.specs.State.{meaning};
-ghost use Rattle.sweeps.specs.Promise.{Did, Drained};
+ghost use Rattle.sweeps.specs.Promise.{Did, Drained, number_in, records_in, bytes_in};
 ghost use Rattle.sweeps.specs.Steps.{SoundReady, DrainPlanned};
 
-use crate::sweep::Answer;
+use crate::sweep::HandedOut;
 use flow::time::EndReason;
+use forms::refusal::Refusal;
 use hand::out::{hand_out, sizes_of};
 use plan::drain::plan_drain;
 use state::check::check;
@@ -22,32 +23,30 @@ fn hand_drained(
     index: &mut [u32],
     free: &mut [u16],
     out: &mut [u8],
-) -> Answer
+) -> Result<HandedOut, Refusal>
     requires { DrainPlanned capacity state.old leaving.now n index.old free.old }
-    ensures { Did (drain_all engine (length out.old) (meaning state.old)) state.old out.old result.refusal result.records result.bytes state.new out.new }
+    ensures { Did (drain_all engine (length out.old) (meaning state.old)) state.old out.old (number_in result) (records_in result) (bytes_in result) state.new out.new }
 {
     let reason = EndReason::CaptureEnd;
     let size = sizes_of(state, capacity, leaving, n, reason);
     if out.len() < size {
-        return Answer {
-            refusal: 7,
-            records: 0,
-            bytes: 0,
-        };
+        return Err(Refusal::Room);
     }
     table::clear_queue(state, capacity);
     let bytes = hand_out(state, capacity, leaving, n, reason, index, free, out);
-    Answer {
-        refusal: 0,
-        records: n,
-        bytes: bytes,
-    }
+    Ok(HandedOut { records: n, bytes })
 }
 
 // A drain of a sound state.
-fn drain_sound(state: &mut [u8], index: &mut [u32], free: &mut [u16], out: &mut [u8]) -> Answer
+#[tactic(auto, using(crate::specs::DrainLaws::drain_plans, crate::specs::DrainLaws::drain_planned))]
+fn drain_sound(
+    state: &mut [u8],
+    index: &mut [u32],
+    free: &mut [u16],
+    out: &mut [u8],
+) -> Result<HandedOut, Refusal>
     requires { SoundReady state.old index.old free.old }
-    ensures { Did (drain_all engine (length out.old) (meaning state.old)) state.old out.old result.refusal result.records result.bytes state.new out.new }
+    ensures { Did (drain_all engine (length out.old) (meaning state.old)) state.old out.old (number_in result) (records_in result) (bytes_in result) state.new out.new }
 {
     let header = table::load_header(state);
     let capacity = header.capacity as usize;
@@ -56,18 +55,15 @@ fn drain_sound(state: &mut [u8], index: &mut [u32], free: &mut [u16], out: &mut 
     hand_drained(state, capacity, &leaving, n, index, free, out)
 }
 
-// Every flow is handed out, in order of key bytes; the clock stays. Refusals: 3 Damaged, 7 Room.
-pub fn drain(state: &mut [u8], out: &mut [u8]) -> Answer
-    ensures { Drained state.old out.old result.refusal result.records result.bytes state.new out.new }
+/// Every flow is handed out, in order of key bytes; the clock stays. Refused are a damaged state (Damaged) and too little output
+/// (Room).
+pub fn drain(state: &mut [u8], out: &mut [u8]) -> Result<HandedOut, Refusal>
+    ensures { Drained state.old out.old (number_in result) (records_in result) (bytes_in result) state.new out.new }
 {
     let mut index = [0u32; 16384];
     let mut free = [0u16; 4097];
     if check(state, &mut index, &mut free) {
         return drain_sound(state, &mut index, &mut free, out);
     }
-    Answer {
-        refusal: 3,
-        records: 0,
-        bytes: 0,
-    }
+    Err(Refusal::Damaged)
 }

@@ -1,4 +1,4 @@
-// The calls on a state that the caller lends: sweep and drain.
+//! The calls on a state that the caller lends: sweep and drain.
 #![tactic(auto)]
 
 pub mod clock;

@@ -1,4 +1,5 @@
 -- What a patch of the state does to the view, one law for each region; and the queue's region lent and given back. Assumes nothing.
+use Rattle.std.specs.Prelude.{None, Option, Some}
 use mathlib.Core.Path.{◌≡◌, sym, ap, ◌∙◌, subst}
 use mathlib.Core.Logic.{inl, inr}
 use mathlib.Core.Bool.{Bool}
@@ -13,8 +14,6 @@ use Rattle.memory.specs.Bytes.{num, part, patch}
 use Rattle.memory.specs.Decides.{Decides}
 use Rattle.memory.proofs.Laws.{length_part, part_elsewhere, part_inside, part_patched, drop_behind, lent, put_part, put_front, part_part, part_replicate, length_patch}
 use Rattle.queue.specs.Tree.{node, DueSet, Sound, LeastDue}
-use Rattle.queue.specs.declared.Found.{Found}
-use Rattle.queue.specs.declared.Found.TheVariants.{At, Nothing}
 use Rattle.slots.specs.Table.{slot, slots}
 use Rattle.slots.proofs.Laws.{slots_elsewhere, slots_patched, slots_ext, get_d_slots, length_slots}
 use Rattle.table.specs.View.{View, view, slot_of, with_header, with_slot, with_tree, NoFlow}
@@ -110,19 +109,13 @@ module _ (s : List ℕ) (c : ℕ) where
       → Decides r (Sound (view c s).tree c)
   tree_told r told = subst (λ (t : List ℕ). Decides r (Sound t c)) is_tree told
 
-  module _ (limit : ℕ) (r : Found) (h : LeastDue (take (256 + 624 * c + 16 * c - (256 + 624 * c)) (drop (256 + 624 * c) s)) c limit r) where
-    as_view : LeastDue (view c s).tree c limit r
-    as_view = subst (λ (t : List ℕ). LeastDue t c limit r) is_tree h
-
-    pub next_at : (i : ℕ) → r ≡ At i → NextDue c limit (view c s).tree i
-    next_at i e =
-        let d = subst (LeastDue (view c s).tree c limit) e as_view in
-        record { within = omega (arith, d.0); soon = λ l. d.1; past = λ z. absurd (omega (arith, d.0)) }
-
-    pub next_none : r ≡ Nothing → NextDue c limit (view c s).tree c
-    next_none e =
-        let d = subst (LeastDue (view c s).tree c limit) e as_view in
-        record { within = omega arith; soon = λ l. absurd (omega arith); past = λ z. d }
+  pub next_told : (limit : ℕ) (r : Option ℕ) → LeastDue (take (256 + 624 * c + 16 * c - (256 + 624 * c)) (drop (256 + 624 * c) s)) c limit r
+      → NextDue c limit (view c s).tree r
+  next_told limit r h = go r (subst (λ (t : List ℕ). LeastDue t c limit r) is_tree h)
+    where
+      go : (r : Option ℕ) → LeastDue (view c s).tree c limit r → NextDue c limit (view c s).tree r
+      go (Some i) d = (d.0, d.1)
+      go None d = d
 
   -- and given back
   module _ (size : 256 + 640 * c ≤ length s) where

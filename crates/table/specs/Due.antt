@@ -1,5 +1,5 @@
 -- When a slot's flow ends, when it is due, and what the queue says of it.
-use Rattle.std.specs.Prelude.{ℕ, ◌+◌, ◌-◌, ◌*◌, ◌≤◌, ◌<◌, min, ◌≡◌, List, ◌++◌, replicate}
+use Rattle.std.specs.Prelude.{ℕ, ◌+◌, ◌-◌, ◌*◌, ◌≤◌, ◌<◌, min, ◌≡◌, List, ◌++◌, replicate, None, Option, Some}
 use Rattle.memory.specs.Bytes.{num, part}
 use Rattle.queue.specs.Tree.{node, never, DueSet}
 use Rattle.table.specs.View.{View, with_tree}
@@ -21,11 +21,10 @@ pub record DuePut (c i due : ℕ) (v v' : View) : Type 0 where
   pub same : v' ≡ with_tree v'.tree v
   pub queue : DueSet c i due v.tree v'.tree
 
--- a slot that is due by the limit, or c where none is
-pub record NextDue (c limit : ℕ) (tree : List ℕ) (r : ℕ) : Type 0 where
-  pub within : r ≤ c
-  pub soon : r < c → due_of c tree r ≤ limit
-  pub past : r ≡ c → (j : ℕ) → j < c → limit < due_of c tree j
+-- a slot that is due by the limit, and nothing where every due time is later
+abbrev pub NextDue : ℕ → ℕ → List ℕ → Option ℕ → Type 0
+NextDue c limit tree (Some i) = (i < c) × (due_of c tree i ≤ limit)
+NextDue c limit tree None = (j : ℕ) → j < c → limit < due_of c tree j
 
 -- the queue names nothing: every node of the tree but node 0, which is spare, is 255 throughout, and nothing but the tree has changed
 pub record QueueCleared (c : ℕ) (v v' : View) : Type 0 where

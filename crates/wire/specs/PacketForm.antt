@@ -1,20 +1,13 @@
 -- The packet form (document 01, "Byte forms"): time in nanoseconds (64-bit); frame octets, captured octets (32-bit); TTL (optional
 -- 8-bit); TCP flags (optional 9-bit mask); ICMP (optional 256 × type + code); DSCP, ECN (optional 8-bit); key.
-use Rattle.std.specs.Prelude.{ℕ, ◌-◌, ◌^◌, refl, Bool, true, ltb}
-use Rattle.forms.specs.Form.{Form, Read, got, short, refused, over, pair}
+use Rattle.std.specs.Prelude.{ℕ, ◌-◌, ◌^◌, refl, Bool, true, ltb, None, Option, Some}
+use Rattle.forms.specs.Form.{Form, over, pair}
 use Rattle.forms.specs.Number.{number}
 use Rattle.forms.specs.Optional.{optional8, optional16}
-use Rattle.forms.specs.Lone.{Answer, value, refusal, Written, wrote, unwritten}
-use Rattle.forms.specs.declared.optional.OptU8.{OptU8}
-use Rattle.forms.specs.declared.optional.OptU16.{OptU16}
 use Rattle.key.specs.KeyForm.{key}
 use Rattle.key.specs.declared.key.FlowKey.{FlowKey}
 use Rattle.flow.specs.declared.record.PacketFacts.{PacketFacts}
 use Rattle.wire.specs.declared.packet.Packet.{Packet}
-use Rattle.wire.specs.declared.packet.FactsAt.{FactsAt}
-use Rattle.wire.specs.declared.packet.PacketAt.{PacketAt}
-use Rattle.wire.specs.declared.packet.ReadPacket.{ReadPacket}
-use Rattle.wire.specs.declared.packet.WrotePacket.{WrotePacket}
 
 -- the largest 64-bit and 32-bit numbers
 abbrev pub top64 : ℕ
@@ -26,7 +19,7 @@ top32 = 2 ^ 32 - 1
 -- ---- everything but the key
 
 abbrev pub FactsFields : Type 0
-FactsFields = ℕ × (ℕ × (ℕ × (OptU8 × (OptU16 × (OptU16 × (OptU8 × OptU8))))))
+FactsFields = ℕ × (ℕ × (ℕ × (Option ℕ × (Option ℕ × (Option ℕ × (Option ℕ × Option ℕ))))))
 
 abbrev pub to_facts : FactsFields → PacketFacts
 to_facts (t, (f, (c, (l, (g, (i, (d, e))))))) =
@@ -53,30 +46,6 @@ unfoldable pub packet : Form Packet
 packet = over to_packet from_packet (pair facts key) (λ x v. refl)
 
 -- a packet's fields are in range: the flags are a 9-bit mask, and the types hold the others
-abbrev pub flags_in_range : OptU16 → Bool
-flags_in_range OptU16.Absent = true
-flags_in_range (OptU16.Present mask) = ltb mask 512
-
--- ---- what the answers of the calls say
-
-abbrev pub facts_at : FactsAt → Read PacketFacts ℕ
-facts_at (FactsAt.Value f next) = got f next
-facts_at FactsAt.Short = short
-facts_at FactsAt.Refused = refused
-
-abbrev pub packet_at : PacketAt → Read Packet ℕ
-packet_at (PacketAt.Value p next) = got p next
-packet_at PacketAt.Short = short
-packet_at PacketAt.Refused = refused
-
--- Packet is 4, Short is 9
-abbrev pub packet_read : ReadPacket → Answer Packet
-packet_read (ReadPacket.Value p used) = value p used
-packet_read ReadPacket.Packet = refusal 4
-packet_read ReadPacket.Short = refusal 9
-
--- Packet is 4, Room is 7
-abbrev pub packet_wrote : WrotePacket → Written
-packet_wrote (WrotePacket.Bytes n) = wrote n
-packet_wrote WrotePacket.Packet = unwritten 4
-packet_wrote WrotePacket.Room = unwritten 7
+abbrev pub flags_in_range : Option ℕ → Bool
+flags_in_range None = true
+flags_in_range (Some mask) = ltb mask 512

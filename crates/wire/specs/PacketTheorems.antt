@@ -1,19 +1,20 @@
 -- The packet form in document 01's words: 35 to 103 bytes; what was written is read back; Short and refused exactly when.
-use Rattle.std.specs.Prelude.{ℕ, ◌^◌, ◌≤◌, ◌<◌, ◌≡◌, refl, List, [], ◌++◌, true, length}
+use Rattle.std.specs.Prelude.{ℕ, ◌^◌, ◌≤◌, ◌<◌, ◌≡◌, refl, List, [], ◌++◌, true, length, None, Option, Some}
 use Rattle.std.proofs.Common.{arith, ltb-true, lt-ltb, length-append}
-use Rattle.forms.specs.Form.{short, over_is_valid, over_fits, over_ends, pair_ends, pair_first, pair_second, pair_valid}
+use Rattle.forms.specs.Form.{over_is_valid, over_fits, over_ends, pair_ends, pair_first, pair_second, pair_valid}
 use Rattle.forms.specs.Number.{number, number_ends, number_below, below_number}
 use Rattle.forms.specs.Length.{number_at_most, number_at_least}
 use Rattle.forms.specs.Optional.{number8, number16, optional8_valid, optional16_valid, optional8_below, optional16_below}
 use Rattle.forms.specs.Lone.{value, refusal, read_one}
 use Rattle.forms.specs.Theorems.{Begun, Beginning, read_back, was_written, short_only, is_short, other_only, is_other}
-use Rattle.forms.specs.declared.optional.OptU16.{OptU16}
 use Rattle.key.specs.KeyForm.{key}
 use Rattle.key.specs.KeyTheorems.{KeyInRange, key_valid, key_in_range, key_at_most, key_at_least}
 use Rattle.flow.specs.declared.record.PacketFacts.{PacketFacts}
 use Rattle.wire.specs.PacketForm.{top64, top32, to_facts, from_facts, facts, to_packet, from_packet, packet, flags_in_range}
 use Rattle.wire.specs.PacketLemmas.{facts_writes, packet_writes}
 use Rattle.wire.specs.declared.packet.Packet.{Packet}
+use Rattle.forms.specs.Form.{stop}
+use Rattle.forms.specs.declared.stop.Stop.{Stop}
 
 -- ---- exactly the packets in range have a form: a number within its field's width, the flags a mask of nine bits
 
@@ -32,13 +33,13 @@ pub record PacketInRange (p : Packet) : Type 0 where
   pub key : KeyInRange p.key
 
 -- the test that writing makes of the flags
-pub flags_tested : (o : OptU16) → flags_in_range o ≡ true → number16 o ≤ 2 ^ 9
-flags_tested OptU16.Absent e = omega arith
-flags_tested (OptU16.Present m) e = omega (arith, ltb-true m 512 e)
+pub flags_tested : (o : Option ℕ) → flags_in_range o ≡ true → number16 o ≤ 2 ^ 9
+flags_tested None e = omega arith
+flags_tested (Some m) e = omega (arith, ltb-true m 512 e)
 
-pub tested_flags : (o : OptU16) → number16 o ≤ 2 ^ 9 → flags_in_range o ≡ true
-tested_flags OptU16.Absent h = refl
-tested_flags (OptU16.Present m) h = lt-ltb m 512 (omega arith)
+pub tested_flags : (o : Option ℕ) → number16 o ≤ 2 ^ 9 → flags_in_range o ≡ true
+tested_flags None h = refl
+tested_flags (Some m) h = lt-ltb m 512 (omega arith)
 
 facts_valid : (p : PacketFacts) → FactsInRange p → facts.valid p
 unfolding facts
@@ -121,11 +122,11 @@ packet_at_least p =
 
 -- ---- reading
 
-facts_ends : facts.read [] ≡ short
+facts_ends : facts.read [] ≡ stop Stop.Short
 unfolding facts
 facts_ends = over_ends to_facts from_facts _ (λ x v. refl) (pair_ends (number top64) _ (number_ends top64))
 
-pub packet_ends : packet.read [] ≡ short
+pub packet_ends : packet.read [] ≡ stop Stop.Short
 unfolding packet
 packet_ends = over_ends to_packet from_packet _ (λ x v. refl) (pair_ends facts key facts_ends)
 

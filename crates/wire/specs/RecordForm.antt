@@ -1,22 +1,16 @@
 -- The record form (document 01, "Byte forms").
-use Rattle.std.specs.Prelude.{ℕ, zero, suc, ◌^◌, ◌≤◌, ◌≡◌, refl, List, [], ◌∷◌, Bool, true, false, cond, ◌&&◌, eqb, ltb, leb, length}
+use Rattle.std.specs.Prelude.{ℕ, zero, suc, ◌^◌, ◌≤◌, ◌≡◌, refl, List, [], ◌∷◌, Bool, true, false, cond, ◌&&◌, eqb, ltb, leb, length, None, Option, Some, Err, Ok, Result}
 use Rattle.std.proofs.Common.{sym, arith, eqb-true}
-use Rattle.forms.specs.Form.{Form, Read, got, short, refused, one, one_valid, over, pair}
+use Rattle.forms.specs.Form.{Form, Read, got, one, one_valid, over, pair}
 use Rattle.forms.specs.Number.{number, number_below}
 use Rattle.forms.specs.At.{read_at}
 use Rattle.forms.specs.Optional.{number8, number32, optional8, optional16, optional32}
-use Rattle.forms.specs.Lone.{Answer, value, refusal, Written, wrote, unwritten}
-use Rattle.forms.specs.declared.optional.OptU8.{OptU8}
-use Rattle.forms.specs.declared.optional.OptU16.{OptU16}
-use Rattle.forms.specs.declared.optional.OptU32.{OptU32}
+use Rattle.forms.specs.Lone.{Answer, value, refusal}
 use Rattle.key.specs.KeyForm.{key}
 use Rattle.key.specs.declared.key.FlowKey.{FlowKey}
-use Rattle.stats.specs.declared.range.OptRange32.{OptRange32}
-use Rattle.stats.specs.declared.range.OptRange8.{OptRange8}
 use Rattle.stats.specs.declared.counts.TcpFlagCounts.{TcpFlagCounts}
 use Rattle.stats.specs.declared.counts.DirectionStats.{DirectionStats}
 use Rattle.flow.specs.declared.time.EndReason.{EndReason}
-use Rattle.flow.specs.declared.time.OptEndReason.{OptEndReason}
 use Rattle.flow.specs.declared.time.StartState.{StartState}
 use Rattle.flow.specs.declared.time.TimeResolution.{TimeResolution}
 use Rattle.flow.specs.declared.time.FlowTime.{FlowTime}
@@ -30,8 +24,10 @@ use Rattle.wire.specs.declared.record.HeadFields.{HeadFields}
 use Rattle.wire.specs.declared.record.DirectionFields.{DirectionFields}
 use Rattle.wire.specs.declared.record.TailFields.{TailFields}
 use Rattle.wire.specs.declared.record.RecordFields.{RecordFields}
-use Rattle.wire.specs.declared.record.ReadRecord.{ReadRecord}
-use Rattle.wire.specs.declared.record.WroteRecord.{WroteRecord}
+use Rattle.stats.specs.declared.range.Range.{Range}
+use Rattle.forms.specs.declared.refusal.Refusal.{Refusal}
+use Rattle.forms.specs.Form.{stop}
+use Rattle.forms.specs.declared.stop.Stop.{Stop}
 
 -- ---- "schema, always 1"
 
@@ -159,7 +155,7 @@ flags = over to_flags from_flags (pair count (pair count (pair count (pair count
 -- ---- "for each direction ..: packets, frame octets, length minimum and maximum (optional 32-bit), nine flag counts"
 
 abbrev pub DirectionTuple : Type 0
-DirectionTuple = ℕ × (ℕ × (OptU32 × (OptU32 × TcpFlagCounts)))
+DirectionTuple = ℕ × (ℕ × (Option ℕ × (Option ℕ × TcpFlagCounts)))
 
 abbrev pub to_direction : DirectionTuple → DirectionFields
 to_direction (p, (o, (l, (g, c)))) = record { packets = p; frame_octets = o; least = l; greatest = g; flags = c }
@@ -173,7 +169,7 @@ direction = over to_direction from_direction (pair count (pair count (pair optio
 -- ---- "TTL minimum and maximum (optional); DSCP, ECN, ICMP; captured octets; truncated 0 or 1"
 
 abbrev pub TailTuple : Type 0
-TailTuple = OptU8 × (OptU8 × (OptU8 × (OptU8 × (OptU16 × (ℕ × Bool)))))
+TailTuple = Option ℕ × (Option ℕ × (Option ℕ × (Option ℕ × (Option ℕ × (ℕ × Bool)))))
 
 abbrev pub to_tail : TailTuple → TailFields
 to_tail (l, (g, (d, (e, (i, (c, t)))))) =
@@ -201,53 +197,58 @@ fields = over to_fields from_fields (pair head (pair direction (pair direction (
 
 -- ---- the fields of a flow, and the flow of fields
 
-abbrev pub least_of32 : OptRange32 → OptU32
-least_of32 OptRange32.Absent = OptU32.Absent
-least_of32 (OptRange32.Present r) = OptU32.Present r.min
+abbrev pub least_of : {A : Type 0} → Option (Range A) → Option A
+least_of None = None
+least_of (Some r) = Some r.min
 
-abbrev pub greatest_of32 : OptRange32 → OptU32
-greatest_of32 OptRange32.Absent = OptU32.Absent
-greatest_of32 (OptRange32.Present r) = OptU32.Present r.max
+abbrev pub greatest_of : {A : Type 0} → Option (Range A) → Option A
+greatest_of None = None
+greatest_of (Some r) = Some r.max
 
-abbrev pub least_of8 : OptRange8 → OptU8
-least_of8 OptRange8.Absent = OptU8.Absent
-least_of8 (OptRange8.Present r) = OptU8.Present r.min
+abbrev pub least_of32 : Option (Range ℕ) → Option ℕ
+least_of32 = least_of
 
-abbrev pub greatest_of8 : OptRange8 → OptU8
-greatest_of8 OptRange8.Absent = OptU8.Absent
-greatest_of8 (OptRange8.Present r) = OptU8.Present r.max
+abbrev pub greatest_of32 : Option (Range ℕ) → Option ℕ
+greatest_of32 = greatest_of
+
+abbrev pub least_of8 : Option (Range ℕ) → Option ℕ
+least_of8 = least_of
+
+abbrev pub greatest_of8 : Option (Range ℕ) → Option ℕ
+greatest_of8 = greatest_of
 
 -- both bounds are numbers of 32 bits, where there are any
-abbrev pub LengthsInRange : OptRange32 → Type 0
+abbrev pub LengthsInRange : Option (Range ℕ) → Type 0
 LengthsInRange o = (number32 (least_of32 o) ≤ 2 ^ 32) × (number32 (greatest_of32 o) ≤ 2 ^ 32)
 
 -- both bounds are numbers of 8 bits, where there are any
-abbrev pub TtlInRange : OptRange8 → Type 0
+abbrev pub TtlInRange : Option (Range ℕ) → Type 0
 TtlInRange o = (number8 (least_of8 o) ≤ 2 ^ 8) × (number8 (greatest_of8 o) ≤ 2 ^ 8)
 
 -- the range of two bounds, where both are there
-abbrev pub range32_from : OptU32 → OptU32 → OptRange32
-range32_from OptU32.Absent g = OptRange32.Absent
-range32_from (OptU32.Present a) OptU32.Absent = OptRange32.Absent
-range32_from (OptU32.Present a) (OptU32.Present b) = OptRange32.Present (record { min = a; max = b })
+abbrev pub range_from : {A : Type 0} → Option A → Option A → Option (Range A)
+range_from None g = None
+range_from (Some a) None = None
+range_from (Some a) (Some b) = Some (record { min = a; max = b })
 
-abbrev pub range8_from : OptU8 → OptU8 → OptRange8
-range8_from OptU8.Absent g = OptRange8.Absent
-range8_from (OptU8.Present a) OptU8.Absent = OptRange8.Absent
-range8_from (OptU8.Present a) (OptU8.Present b) = OptRange8.Present (record { min = a; max = b })
+abbrev pub range32_from : Option ℕ → Option ℕ → Option (Range ℕ)
+range32_from = range_from
+
+abbrev pub range8_from : Option ℕ → Option ℕ → Option (Range ℕ)
+range8_from = range_from
 
 -- both bounds are there, or neither
-abbrev pub paired32 : OptU32 → OptU32 → Bool
-paired32 OptU32.Absent OptU32.Absent = true
-paired32 OptU32.Absent (OptU32.Present b) = false
-paired32 (OptU32.Present a) OptU32.Absent = false
-paired32 (OptU32.Present a) (OptU32.Present b) = true
+abbrev pub paired : {A : Type 0} → Option A → Option A → Bool
+paired None None = true
+paired None (Some b) = false
+paired (Some a) None = false
+paired (Some a) (Some b) = true
 
-abbrev pub paired8 : OptU8 → OptU8 → Bool
-paired8 OptU8.Absent OptU8.Absent = true
-paired8 OptU8.Absent (OptU8.Present b) = false
-paired8 (OptU8.Present a) OptU8.Absent = false
-paired8 (OptU8.Present a) (OptU8.Present b) = true
+abbrev pub paired32 : Option ℕ → Option ℕ → Bool
+paired32 = paired
+
+abbrev pub paired8 : Option ℕ → Option ℕ → Bool
+paired8 = paired
 
 abbrev pub direction_fields : DirectionStats → DirectionFields
 direction_fields d = record {
@@ -267,9 +268,9 @@ direction_from d = record {
 }
 
 -- an open flow has no end reason, is not sound, and is never written
-abbrev pub reason_of : OptEndReason → EndReason
-reason_of OptEndReason.Absent = EndReason.IdleTimeout
-reason_of (OptEndReason.Present r) = r
+abbrev pub reason_of : Option EndReason → EndReason
+reason_of None = EndReason.IdleTimeout
+reason_of (Some r) = r
 
 abbrev pub head_fields : FlowTime → HeadFields
 head_fields t = record {
@@ -309,7 +310,7 @@ flow_from w = record {
       end = record { 0 = w.head.end };
       resolution = w.head.resolution;
       start_state = w.head.state;
-      end_reason = OptEndReason.Present w.head.reason;
+      end_reason = Some w.head.reason;
     };
     forward = direction_from w.forward;
     reverse = direction_from w.reverse;
@@ -338,31 +339,18 @@ record_bytes f = fields.write (fields_of f)
 -- what the fields that were read answer: the flow where they are sound, else 8
 abbrev pub record_answer : Read RecordFields ℕ → Answer Flow
 record_answer (got w used) = cond (sound_fields w) (value (flow_from w) used) (refusal 8)
-record_answer short = refusal 9
-record_answer refused = refusal 8
+record_answer (stop Stop.Short) = refusal 9
+record_answer (stop Stop.Refused) = refusal 8
 
 -- "Reading one form from an empty buffer answers .. for a record 8"; Short is judged by the fields alone
 abbrev pub read_record : List ℕ → Answer Flow
 read_record [] = refusal 8
 read_record (b ∷ s) = record_answer (read_at fields (b ∷ s) 0)
 
--- what the answer of the call says: Record is 8, Short is 9
-abbrev pub record_read : ReadRecord → Answer Flow
-record_read (ReadRecord.Value f used) = value f used
-record_read ReadRecord.Record = refusal 8
-record_read ReadRecord.Short = refusal 9
-
--- Damaged is 3, Room is 7
-abbrev pub record_wrote : WroteRecord → Written
-record_wrote (WroteRecord.Bytes n) = wrote n
-record_wrote WroteRecord.Damaged = unwritten 3
-record_wrote WroteRecord.Room = unwritten 7
-
 -- the bytes that were written; refused, none
-abbrev pub bytes_written : WroteRecord → ℕ
-bytes_written (WroteRecord.Bytes n) = n
-bytes_written WroteRecord.Damaged = 0
-bytes_written WroteRecord.Room = 0
+abbrev pub bytes_written : Result ℕ Refusal → ℕ
+bytes_written (Ok n) = n
+bytes_written (Err why) = 0
 
 -- the filled part of the output: the record's bytes where it is sound and there is room for them, else none
 abbrev pub filled_record : Flow → List ℕ → List ℕ

@@ -1,22 +1,17 @@
 -- The record form in document 01's words: at most 358 bytes; a sound record is read back; Short and Record exactly when.
-use Rattle.std.specs.Prelude.{ℕ, ◌-◌, ◌^◌, ◌≤◌, ◌<◌, ◌≡◌, refl, List, [], ◌∷◌, ◌++◌, Bool, true, false, cond, ◌&&◌, length}
+use Rattle.std.specs.Prelude.{ℕ, ◌-◌, ◌^◌, ◌≤◌, ◌<◌, ◌≡◌, refl, List, [], ◌∷◌, ◌++◌, Bool, true, false, cond, ◌&&◌, length, None, Option, Some}
 use Rattle.std.proofs.Common.{sym, ap, ◌∙◌, subst, arith, length-append}
 use Rattle.std.proofs.lemmas.Bool.{false≢true}
-use Rattle.forms.specs.Form.{Read, got, short, refused, and_then, over_is_valid, over_fits, over_ends, one_ends, one_is_valid, pair_ends, pair_first, pair_second, pair_valid, short_begins, begins_short}
+use Rattle.forms.specs.Form.{Read, got, and_then, over_is_valid, over_fits, over_ends, one_ends, one_is_valid, pair_ends, pair_first, pair_second, pair_valid, short_begins, begins_short}
 use Rattle.forms.specs.Number.{number, number_bytes, number_below, below_number}
 use Rattle.forms.specs.At.{placed_front}
 use Rattle.forms.specs.Length.{number_at_most}
 use Rattle.forms.specs.Optional.{number8, number16, number32, optional8_valid, optional16_valid, optional32_valid, optional8_below, optional16_below, optional32_below}
 use Rattle.forms.specs.Lone.{value, refusal}
 use Rattle.forms.specs.Theorems.{Beginning, filled}
-use Rattle.forms.specs.declared.optional.OptU8.{OptU8}
-use Rattle.forms.specs.declared.optional.OptU32.{OptU32}
 use Rattle.key.specs.KeyTheorems.{KeyInRange, key_valid, key_in_range, key_at_most}
-use Rattle.stats.specs.declared.range.OptRange32.{OptRange32}
-use Rattle.stats.specs.declared.range.OptRange8.{OptRange8}
 use Rattle.stats.specs.declared.counts.TcpFlagCounts.{TcpFlagCounts}
 use Rattle.flow.specs.declared.time.EndReason.{EndReason}
-use Rattle.flow.specs.declared.time.OptEndReason.{OptEndReason}
 use Rattle.flow.specs.declared.time.StartState.{StartState}
 use Rattle.flow.specs.declared.time.TimeResolution.{TimeResolution}
 use Rattle.flow.specs.declared.record.FlowRecord.{FlowRecord}
@@ -30,28 +25,31 @@ use Rattle.wire.specs.declared.record.HeadFields.{HeadFields}
 use Rattle.wire.specs.declared.record.DirectionFields.{DirectionFields}
 use Rattle.wire.specs.declared.record.TailFields.{TailFields}
 use Rattle.wire.specs.declared.record.RecordFields.{RecordFields}
+use Rattle.stats.specs.declared.range.Range.{Range}
+use Rattle.forms.specs.Form.{stop}
+use Rattle.forms.specs.declared.stop.Stop.{Stop}
 
 -- ---- the flow of a flow's fields, and the fields of their flow
 
-range32_back : (o : OptRange32) → range32_from (least_of32 o) (greatest_of32 o) ≡ o
-range32_back OptRange32.Absent = refl
-range32_back (OptRange32.Present r) = refl
+range32_back : (o : Option (Range ℕ)) → range32_from (least_of32 o) (greatest_of32 o) ≡ o
+range32_back None = refl
+range32_back (Some r) = refl
 
-range8_back : (o : OptRange8) → range8_from (least_of8 o) (greatest_of8 o) ≡ o
-range8_back OptRange8.Absent = refl
-range8_back (OptRange8.Present r) = refl
+range8_back : (o : Option (Range ℕ)) → range8_from (least_of8 o) (greatest_of8 o) ≡ o
+range8_back None = refl
+range8_back (Some r) = refl
 
-paired32_of : (o : OptRange32) → paired32 (least_of32 o) (greatest_of32 o) ≡ true
-paired32_of OptRange32.Absent = refl
-paired32_of (OptRange32.Present r) = refl
+paired32_of : (o : Option (Range ℕ)) → paired32 (least_of32 o) (greatest_of32 o) ≡ true
+paired32_of None = refl
+paired32_of (Some r) = refl
 
-paired8_of : (o : OptRange8) → paired8 (least_of8 o) (greatest_of8 o) ≡ true
-paired8_of OptRange8.Absent = refl
-paired8_of (OptRange8.Present r) = refl
+paired8_of : (o : Option (Range ℕ)) → paired8 (least_of8 o) (greatest_of8 o) ≡ true
+paired8_of None = refl
+paired8_of (Some r) = refl
 
-reason_there : (o : OptEndReason) → has_reason o ≡ true → OptEndReason.Present (reason_of o) ≡ o
-reason_there OptEndReason.Absent h = absurd (false≢true h)
-reason_there (OptEndReason.Present r) h = refl
+reason_there : (o : Option EndReason) → has_reason o ≡ true → Some (reason_of o) ≡ o
+reason_there None h = absurd (false≢true h)
+reason_there (Some r) h = refl
 
 -- a sound record has its end reason
 sound_reason : (r : FlowRecord) → sound_record r ≡ true → has_reason r.time.end_reason ≡ true
@@ -78,17 +76,17 @@ flow_sound : (f : Flow) → sound_record f.«record» ≡ true → sound_fields 
 unfolding sound_fields
 flow_sound f h = simp (flow_paired f, flow_back f h, h)
 
-least32_back : (l g : OptU32) → paired32 l g ≡ true → (least_of32 (range32_from l g) ≡ l) × (greatest_of32 (range32_from l g) ≡ g)
-least32_back OptU32.Absent OptU32.Absent h = (refl, refl)
-least32_back OptU32.Absent (OptU32.Present b) h = absurd (false≢true h)
-least32_back (OptU32.Present a) OptU32.Absent h = absurd (false≢true h)
-least32_back (OptU32.Present a) (OptU32.Present b) h = (refl, refl)
+least32_back : (l g : Option ℕ) → paired32 l g ≡ true → (least_of32 (range32_from l g) ≡ l) × (greatest_of32 (range32_from l g) ≡ g)
+least32_back None None h = (refl, refl)
+least32_back None (Some b) h = absurd (false≢true h)
+least32_back (Some a) None h = absurd (false≢true h)
+least32_back (Some a) (Some b) h = (refl, refl)
 
-least8_back : (l g : OptU8) → paired8 l g ≡ true → (least_of8 (range8_from l g) ≡ l) × (greatest_of8 (range8_from l g) ≡ g)
-least8_back OptU8.Absent OptU8.Absent h = (refl, refl)
-least8_back OptU8.Absent (OptU8.Present b) h = absurd (false≢true h)
-least8_back (OptU8.Present a) OptU8.Absent h = absurd (false≢true h)
-least8_back (OptU8.Present a) (OptU8.Present b) h = (refl, refl)
+least8_back : (l g : Option ℕ) → paired8 l g ≡ true → (least_of8 (range8_from l g) ≡ l) × (greatest_of8 (range8_from l g) ≡ g)
+least8_back None None h = (refl, refl)
+least8_back None (Some b) h = absurd (false≢true h)
+least8_back (Some a) None h = absurd (false≢true h)
+least8_back (Some a) (Some b) h = (refl, refl)
 
 fields_back : (w : RecordFields) → paired_fields w ≡ true → fields_of (flow_from w) ≡ w
 unfolding flow_from fields_of paired_fields
@@ -366,15 +364,15 @@ record_at_most f h =
 
 -- ---- reading
 
-schema_ends : schema.read [] ≡ short
+schema_ends : schema.read [] ≡ stop Stop.Short
 unfolding schema
 schema_ends = over_ends _ _ _ schema_undo (one_ends is_schema 1 refl)
 
-head_ends : head.read [] ≡ short
+head_ends : head.read [] ≡ stop Stop.Short
 unfolding head
 head_ends = over_ends to_head from_head _ (λ x v. refl) (pair_ends schema _ schema_ends)
 
-fields_ends : fields.read [] ≡ short
+fields_ends : fields.read [] ≡ stop Stop.Short
 unfolding fields
 fields_ends = over_ends to_fields from_fields _ (λ x v. refl) (pair_ends head _ head_ends)
 
@@ -442,14 +440,14 @@ record_short_only (b ∷ s) e = go (fields.read (b ∷ s)) refl
 
     go : (r : Read RecordFields (List ℕ)) → fields.read (b ∷ s) ≡ r → Beginning fields (b ∷ s)
     go (got w rest) q = absurd (unsound (sound_fields w) w (length (b ∷ s) - length rest) (sym (by_read b s (got w rest) q) ∙ e))
-    go short q =
+    go (stop Stop.Short) q =
         let (a, m, t, v, x) = short_begins fields (b ∷ s) q in
         record { some = λ n. absurd (omega (arith, ap length n)); whole = a; missing = m; behind = t; valid = v; bytes = x }
-    go refused q = let is = sym (by_read b s refused q) ∙ e in let z : ◌≡◌ {A = ℕ} 8 9 = cc in absurd (omega arith)
+    go (stop Stop.Refused) q = let is = sym (by_read b s (stop Stop.Refused) q) ∙ e in let z : ◌≡◌ {A = ℕ} 8 9 = cc in absurd (omega arith)
 
 pub record_is_short : (s : List ℕ) → Beginning fields s → read_record s ≡ refusal 9
 record_is_short [] h = absurd (h.some refl)
-record_is_short (b ∷ s) h = by_read b s short (begins_short fields (b ∷ s) h.whole h.missing h.behind h.valid h.bytes)
+record_is_short (b ∷ s) h = by_read b s (stop Stop.Short) (begins_short fields (b ∷ s) h.whole h.missing h.behind h.valid h.bytes)
 
 -- Record, 8, exactly where they neither begin with a record form nor are Short
 pub record_refused_only : (s : List ℕ) → read_record s ≡ refusal 8 → (RecordBegun s → ⊥) × (Beginning fields s → ⊥)
@@ -473,8 +471,8 @@ record_is_refused (b ∷ s) n m = go (fields.read (b ∷ s)) refl
 
     go : (r : Read RecordFields (List ℕ)) → fields.read (b ∷ s) ≡ r → read_record (b ∷ s) ≡ refusal 8
     go (got w rest) q = sound_or (sound_fields w) w rest q refl
-    go short q = absurd (m (record_short_only (b ∷ s) (by_read b s short q)))
-    go refused q = by_read b s refused q
+    go (stop Stop.Short) q = absurd (m (record_short_only (b ∷ s) (by_read b s (stop Stop.Short) q)))
+    go (stop Stop.Refused) q = by_read b s (stop Stop.Refused) q
 
 -- what is read was written so, is sound and in range
 pub record_was_written : (s : List ℕ) (f : Flow) (n : ℕ) → read_record s ≡ value f n
@@ -498,5 +496,5 @@ record_was_written (b ∷ s) f n e = go (fields.read (b ∷ s)) refl
 
     go : (r : Read RecordFields (List ℕ)) → fields.read (b ∷ s) ≡ r → Found
     go (got w rest) q = sound_or (sound_fields w) w rest q refl (sym (by_read b s (got w rest) q) ∙ e)
-    go short q = let is = sym (by_read b s short q) ∙ e in let z : ◌≡◌ {A = ℕ} 0 1 = cc in absurd (omega arith)
-    go refused q = let is = sym (by_read b s refused q) ∙ e in let z : ◌≡◌ {A = ℕ} 0 1 = cc in absurd (omega arith)
+    go (stop Stop.Short) q = let is = sym (by_read b s (stop Stop.Short) q) ∙ e in let z : ◌≡◌ {A = ℕ} 0 1 = cc in absurd (omega arith)
+    go (stop Stop.Refused) q = let is = sym (by_read b s (stop Stop.Refused) q) ∙ e in let z : ◌≡◌ {A = ℕ} 0 1 = cc in absurd (omega arith)

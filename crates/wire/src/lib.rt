@@ -1,6 +1,6 @@
-// The packet form and the record form: what probes hand in and what comes out.
+//! The packet form and the record form: what probes hand in and what comes out.
 #![tactic(auto)]
 
 pub mod packet;
-pub mod part;
+mod parts;
 pub mod record;

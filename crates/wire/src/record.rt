@@ -1,34 +1,31 @@
-// A flow and its record form: schema, end reason, start state, resolution, start, end; for each direction packets, frame octets,
-// length minimum and maximum, nine flag counts; TTL minimum and maximum; DSCP, ECN, ICMP; captured octets; truncated; key.
+//! A flow and its record form: the fields, their numbers, and the form in a buffer.
+
 ghost use Rattle.std.specs.Prelude.{◌≡◌, true};
+ghost use Rattle.forms.specs.Answers.{answer_of, written_of};
 ghost use Rattle.forms.specs.At.{read_at};
-ghost use Rattle.forms.specs.Field.{Taken};
 ghost use Rattle.forms.specs.Form.{got};
 ghost use Rattle.forms.specs.Length.{Sized};
 ghost use Rattle.forms.specs.Lone.{write_one};
+ghost use Rattle.forms.specs.Numbers.{optional_of};
 ghost use Rattle.forms.specs.Optional.{number8, number32};
 ghost use Rattle.forms.specs.Put.{Put};
 ghost use Rattle.flow.specs.Sound.{sound_record};
-ghost use Rattle.wire.specs.RecordForm.{schema, reason_number, reason_from, reason_of, state_number, state_from, resolution_number, resolution_from, bit_number, bit_from, head, flags, direction, tail, fields, least_of8, greatest_of8, least_of32, greatest_of32, range8_from, range32_from, paired8, paired32, direction_fields, direction_from, head_fields, tail_fields, flow_from, paired_fields, record_bytes, record_answer, read_record, record_read, record_wrote, bytes_written, filled_record};
+ghost use Rattle.wire.specs.RecordForm.{reason_number, reason_from, reason_of, state_number, state_from, resolution_number, resolution_from, bit_number, bit_from, head_fields, direction_fields, tail_fields, fields, fields_of, least_of, greatest_of, least_of8, greatest_of8, least_of32, greatest_of32, range_from, paired, direction_from, flow_from, paired_fields, record_bytes, record_answer, read_record, bytes_written, filled_record};
 
-use crate::part::key_field;
 use flow::record::FlowRecord;
 use flow::sound::sound;
-use flow::time::{EndReason, FlowTime, Nanos, OptEndReason, StartState, TimeResolution};
-use forms::field::{Next, byte_field, number_field, refusal};
-use forms::number::number_len;
-use forms::optional::{
-    OptU8, OptU16, OptU32, opt_u8_field, opt_u8_number, opt_u16_field, opt_u16_number,
-    opt_u32_field,
-};
-use forms::place::{Place, write_byte, write_number};
-use key::form::{key_len, write_key_at};
+use flow::time::{EndReason, FlowTime, Nanos, StartState, TimeResolution};
+use forms::form::ByteForm;
+use forms::lone::{put, read_at, write_lone};
+use forms::numbers::{Number, optional_number};
+use forms::refusal::Refusal;
+use forms::stop::Stop;
 use key::key::FlowKey;
 use stats::counts::{CaptureStats, DirectionStats, NetworkStats, TcpFlagCounts, TransportStats};
-use stats::range::{OptRange8, OptRange32, Range8, Range32};
+use stats::range::Range;
 
-// A flow: what identifies it, alongside what it accumulated.
-#[derive(Clone, Copy)]
+/// A flow: what identifies it, alongside what it accumulated.
+#[derive(Clone, Copy, Debug, PartialEq, Eq)]
 pub struct Flow {
     pub key: FlowKey,
     pub record: FlowRecord,
@@ -36,7 +33,8 @@ pub struct Flow {
 
 // ---- the form's fields, where they are not yet known to make a record: the bounds of a range may be there one without the other
 
-#[derive(Clone, Copy)]
+/// When the flow was, and why it ended.
+#[derive(Clone, Copy, Debug, PartialEq, Eq)]
 pub struct HeadFields {
     pub reason: EndReason,
     pub state: StartState,
@@ -45,27 +43,30 @@ pub struct HeadFields {
     pub end: u64,
 }
 
-#[derive(Clone, Copy)]
+/// What was seen in one direction.
+#[derive(Clone, Copy, Debug, PartialEq, Eq)]
 pub struct DirectionFields {
     pub packets: u64,
     pub frame_octets: u64,
-    pub least: OptU32,
-    pub greatest: OptU32,
+    pub least: Option<u32>,
+    pub greatest: Option<u32>,
     pub flags: TcpFlagCounts,
 }
 
-#[derive(Clone, Copy)]
+/// What was seen in both.
+#[derive(Clone, Copy, Debug, PartialEq, Eq)]
 pub struct TailFields {
-    pub least_ttl: OptU8,
-    pub greatest_ttl: OptU8,
-    pub dscp: OptU8,
-    pub ecn: OptU8,
-    pub icmp: OptU16,
+    pub least_ttl: Option<u8>,
+    pub greatest_ttl: Option<u8>,
+    pub dscp: Option<u8>,
+    pub ecn: Option<u8>,
+    pub icmp: Option<u16>,
     pub captured_octets: u64,
     pub truncated: bool,
 }
 
-#[derive(Clone, Copy)]
+/// All fields of a record.
+#[derive(Clone, Copy, Debug, PartialEq, Eq)]
 pub struct RecordFields {
     pub head: HeadFields,
     pub forward: DirectionFields,
@@ -76,6 +77,8 @@ pub struct RecordFields {
 
 // ---- numbers that stand for cases
 
+/// The reason that a number stands for.
+#[tactic(auto, using(crate::specs::RecordRead::last_reason))]
 pub fn reason_from(number: u64) -> EndReason
     ensures { result ≡ reason_from number }
 {
@@ -87,6 +90,8 @@ pub fn reason_from(number: u64) -> EndReason
     }
 }
 
+/// The state that a number stands for.
+#[tactic(auto, using(crate::specs::RecordRead::last_state))]
 pub fn state_from(number: u64) -> StartState
     ensures { result ≡ state_from number }
 {
@@ -97,6 +102,8 @@ pub fn state_from(number: u64) -> StartState
     }
 }
 
+/// The resolution that a number stands for.
+#[tactic(auto, using(crate::specs::RecordRead::last_resolution))]
 pub fn resolution_from(number: u64) -> TimeResolution
     ensures { result ≡ resolution_from number }
 {
@@ -106,7 +113,8 @@ pub fn resolution_from(number: u64) -> TimeResolution
     }
 }
 
-fn bit_from(number: u64) -> bool
+#[tactic(auto, using(crate::specs::RecordRead::last_bit))]
+pub(crate) fn bit_from(number: u64) -> bool
     ensures { result ≡ bit_from number }
 {
     match number {
@@ -115,12 +123,13 @@ fn bit_from(number: u64) -> bool
     }
 }
 
-pub fn reason_number(reason: OptEndReason) -> u64
+/// The number that stands for a reason, 0 for none.
+pub fn reason_number(reason: Option<EndReason>) -> u64
     ensures { result ≡ reason_number (reason_of reason) }
 {
     match reason {
-        OptEndReason::Absent => 0,
-        OptEndReason::Present(present) => match present {
+        None => 0,
+        Some(present) => match present {
             EndReason::IdleTimeout => 0,
             EndReason::Fin => 1,
             EndReason::Rst => 2,
@@ -129,6 +138,7 @@ pub fn reason_number(reason: OptEndReason) -> u64
     }
 }
 
+/// The number that stands for a state.
 pub fn state_number(state: StartState) -> u64
     ensures { result ≡ state_number state }
 {
@@ -139,6 +149,7 @@ pub fn state_number(state: StartState) -> u64
     }
 }
 
+/// The number that stands for a resolution.
 pub fn resolution_number(resolution: TimeResolution) -> u64
     ensures { result ≡ resolution_number resolution }
 {
@@ -148,614 +159,274 @@ pub fn resolution_number(resolution: TimeResolution) -> u64
     }
 }
 
+/// The number that stands for a bit.
 pub fn bit_number(bit: bool) -> u64
     ensures { result ≡ bit_number bit }
 {
     if bit { 1 } else { 0 }
 }
 
-// ---- reading the fields
+// ---- from fields to a flow, and back
 
-// What is next behind the schema, which is always 1.
-fn schema_field(s: &[u8], next: Next) -> Next
-    ensures { Taken schema s.now next tt result }
+// The range of two bounds, where both are there.
+fn range_from<T: Copy>(least: Option<T>, greatest: Option<T>) -> Option<Range<T>>
+    ensures { result ≡ range_from least greatest }
 {
-    let first = byte_field(s, next);
-    let number = first.value;
-    let behind = first.next;
-    if number == 1 {
-        return behind;
-    }
-    refusal(behind)
-}
-
-#[derive(Clone, Copy)]
-struct HeadField {
-    value: HeadFields,
-    next: Next,
-}
-
-fn head_field(s: &[u8], next: Next) -> HeadField
-    ensures { Taken head s.now next result.value result.next }
-{
-    let behind_schema = schema_field(s, next);
-    let reason = number_field(s, behind_schema, 3);
-    let behind_reason = reason.next;
-    let state = number_field(s, behind_reason, 2);
-    let behind_state = state.next;
-    let resolution = number_field(s, behind_state, 1);
-    let behind_resolution = resolution.next;
-    let start = number_field(s, behind_resolution, 0xffff_ffff_ffff_ffff);
-    let behind_start = start.next;
-    let end = number_field(s, behind_start, 0xffff_ffff_ffff_ffff);
-    let last = end.next;
-    HeadField {
-        value: HeadFields {
-            reason: reason_from(reason.value),
-            state: state_from(state.value),
-            resolution: resolution_from(resolution.value),
-            start: start.value,
-            end: end.value,
-        },
-        next: last,
-    }
-}
-
-#[derive(Clone, Copy)]
-struct FlagsField {
-    value: TcpFlagCounts,
-    next: Next,
-}
-
-fn flags_field(s: &[u8], next: Next) -> FlagsField
-    ensures { Taken flags s.now next result.value result.next }
-{
-    let most = 0xffff_ffff_ffff_ffff;
-    let fin = number_field(s, next, most);
-    let behind_fin = fin.next;
-    let syn = number_field(s, behind_fin, most);
-    let behind_syn = syn.next;
-    let rst = number_field(s, behind_syn, most);
-    let behind_rst = rst.next;
-    let psh = number_field(s, behind_rst, most);
-    let behind_psh = psh.next;
-    let ack = number_field(s, behind_psh, most);
-    let behind_ack = ack.next;
-    let urg = number_field(s, behind_ack, most);
-    let behind_urg = urg.next;
-    let ece = number_field(s, behind_urg, most);
-    let behind_ece = ece.next;
-    let cwr = number_field(s, behind_ece, most);
-    let behind_cwr = cwr.next;
-    let ns = number_field(s, behind_cwr, most);
-    let last = ns.next;
-    FlagsField {
-        value: TcpFlagCounts {
-            fin: fin.value,
-            syn: syn.value,
-            rst: rst.value,
-            psh: psh.value,
-            ack: ack.value,
-            urg: urg.value,
-            ece: ece.value,
-            cwr: cwr.value,
-            ns: ns.value,
-        },
-        next: last,
-    }
-}
-
-#[derive(Clone, Copy)]
-struct DirectionField {
-    value: DirectionFields,
-    next: Next,
-}
-
-fn direction_field(s: &[u8], next: Next) -> DirectionField
-    ensures { Taken direction s.now next result.value result.next }
-{
-    let packets = number_field(s, next, 0xffff_ffff_ffff_ffff);
-    let behind_packets = packets.next;
-    let octets = number_field(s, behind_packets, 0xffff_ffff_ffff_ffff);
-    let behind_octets = octets.next;
-    let least = opt_u32_field(s, behind_octets);
-    let behind_least = least.next;
-    let greatest = opt_u32_field(s, behind_least);
-    let behind_greatest = greatest.next;
-    let flags = flags_field(s, behind_greatest);
-    let last = flags.next;
-    let l = least.value;
-    let g = greatest.value;
-    let c = flags.value;
-    DirectionField {
-        value: DirectionFields {
-            packets: packets.value,
-            frame_octets: octets.value,
-            least: l,
-            greatest: g,
-            flags: c,
-        },
-        next: last,
-    }
-}
-
-#[derive(Clone, Copy)]
-struct TailField {
-    value: TailFields,
-    next: Next,
-}
-
-fn tail_field(s: &[u8], next: Next) -> TailField
-    ensures { Taken tail s.now next result.value result.next }
-{
-    let least = opt_u8_field(s, next);
-    let behind_least = least.next;
-    let greatest = opt_u8_field(s, behind_least);
-    let behind_greatest = greatest.next;
-    let dscp = opt_u8_field(s, behind_greatest);
-    let behind_dscp = dscp.next;
-    let ecn = opt_u8_field(s, behind_dscp);
-    let behind_ecn = ecn.next;
-    let icmp = opt_u16_field(s, behind_ecn, 65535);
-    let behind_icmp = icmp.next;
-    let captured = number_field(s, behind_icmp, 0xffff_ffff_ffff_ffff);
-    let behind_captured = captured.next;
-    let truncated = number_field(s, behind_captured, 1);
-    let last = truncated.next;
-    let l = least.value;
-    let g = greatest.value;
-    let d = dscp.value;
-    let e = ecn.value;
-    let i = icmp.value;
-    TailField {
-        value: TailFields {
-            least_ttl: l,
-            greatest_ttl: g,
-            dscp: d,
-            ecn: e,
-            icmp: i,
-            captured_octets: captured.value,
-            truncated: bit_from(truncated.value),
-        },
-        next: last,
-    }
-}
-
-#[derive(Clone, Copy)]
-struct FieldsField {
-    value: RecordFields,
-    next: Next,
-}
-
-fn fields_field(s: &[u8], next: Next) -> FieldsField
-    ensures { Taken fields s.now next result.value result.next }
-{
-    let head = head_field(s, next);
-    let behind_head = head.next;
-    let forward = direction_field(s, behind_head);
-    let behind_forward = forward.next;
-    let reverse = direction_field(s, behind_forward);
-    let behind_reverse = reverse.next;
-    let tail = tail_field(s, behind_reverse);
-    let behind_tail = tail.next;
-    let key = key_field(s, behind_tail);
-    let last = key.next;
-    let h = head.value;
-    let f = forward.value;
-    let r = reverse.value;
-    let t = tail.value;
-    let k = key.value;
-    FieldsField {
-        value: RecordFields {
-            head: h,
-            forward: f,
-            reverse: r,
-            tail: t,
-            key: k,
-        },
-        next: last,
-    }
-}
-
-// ---- from fields to a flow
-
-fn range32_from(least: OptU32, greatest: OptU32) -> OptRange32
-    ensures { result ≡ range32_from least greatest }
-{
-    match least {
-        OptU32::Absent => OptRange32::Absent,
-        OptU32::Present(min) => match greatest {
-            OptU32::Absent => OptRange32::Absent,
-            OptU32::Present(max) => OptRange32::Present(Range32 { min: min, max: max }),
-        },
-    }
-}
-
-fn range8_from(least: OptU8, greatest: OptU8) -> OptRange8
-    ensures { result ≡ range8_from least greatest }
-{
-    match least {
-        OptU8::Absent => OptRange8::Absent,
-        OptU8::Present(min) => match greatest {
-            OptU8::Absent => OptRange8::Absent,
-            OptU8::Present(max) => OptRange8::Present(Range8 { min: min, max: max }),
-        },
+    match (least, greatest) {
+        (Some(min), Some(max)) => Some(Range { min, max }),
+        _ => None,
     }
 }
 
 // Both bounds are there, or neither.
-fn paired_32(least: OptU32, greatest: OptU32) -> bool
-    ensures { result ≡ paired32 least greatest }
+fn paired<T: Copy>(least: Option<T>, greatest: Option<T>) -> bool
+    ensures { result ≡ paired least greatest }
 {
-    match least {
-        OptU32::Absent => match greatest {
-            OptU32::Absent => true,
-            OptU32::Present(_) => false,
-        },
-        OptU32::Present(_) => match greatest {
-            OptU32::Absent => false,
-            OptU32::Present(_) => true,
-        },
+    least.is_some() == greatest.is_some()
+}
+
+fn least_of<T: Copy>(range: Option<Range<T>>) -> Option<T>
+    ensures { result ≡ least_of range }
+{
+    match range {
+        None => None,
+        Some(bounds) => Some(bounds.min),
     }
 }
 
-fn paired_8(least: OptU8, greatest: OptU8) -> bool
-    ensures { result ≡ paired8 least greatest }
+fn greatest_of<T: Copy>(range: Option<Range<T>>) -> Option<T>
+    ensures { result ≡ greatest_of range }
 {
-    match least {
-        OptU8::Absent => match greatest {
-            OptU8::Absent => true,
-            OptU8::Present(_) => false,
-        },
-        OptU8::Present(_) => match greatest {
-            OptU8::Absent => false,
-            OptU8::Present(_) => true,
-        },
+    match range {
+        None => None,
+        Some(bounds) => Some(bounds.max),
     }
 }
 
+#[tactic(auto, unfolding(crate::specs::RecordForm::paired_fields))]
 fn paired_fields(w: RecordFields) -> bool
     ensures { result ≡ paired_fields w }
 {
-    let forward = w.forward;
-    let reverse = w.reverse;
-    let tail = w.tail;
-    let forward_least = forward.least;
-    let forward_greatest = forward.greatest;
-    let reverse_least = reverse.least;
-    let reverse_greatest = reverse.greatest;
-    let least_ttl = tail.least_ttl;
-    let greatest_ttl = tail.greatest_ttl;
-    paired_32(forward_least, forward_greatest)
-        & paired_32(reverse_least, reverse_greatest)
-        & paired_8(least_ttl, greatest_ttl)
+    paired(w.forward.least, w.forward.greatest)
+        && paired(w.reverse.least, w.reverse.greatest)
+        && paired(w.tail.least_ttl, w.tail.greatest_ttl)
 }
 
 fn direction_from(d: DirectionFields) -> DirectionStats
     ensures { result ≡ direction_from d }
 {
-    let least = d.least;
-    let greatest = d.greatest;
-    let flags = d.flags;
     DirectionStats {
         packets: d.packets,
         frame_octets: d.frame_octets,
-        packet_length: range32_from(least, greatest),
-        tcp_flags: flags,
+        packet_length: range_from(d.least, d.greatest),
+        tcp_flags: d.flags,
     }
 }
 
+#[tactic(auto, unfolding(crate::specs::RecordForm::flow_from))]
 fn flow_from(w: RecordFields) -> Flow
     ensures { result ≡ flow_from w }
 {
-    let head = w.head;
-    let reason = head.reason;
-    let state = head.state;
-    let resolution = head.resolution;
-    let forward = w.forward;
-    let reverse = w.reverse;
-    let tail = w.tail;
-    let least_ttl = tail.least_ttl;
-    let greatest_ttl = tail.greatest_ttl;
-    let dscp = tail.dscp;
-    let ecn = tail.ecn;
-    let icmp = tail.icmp;
-    let key = w.key;
     Flow {
-        key: key,
+        key: w.key,
         record: FlowRecord {
             time: FlowTime {
-                start: Nanos(head.start),
-                end: Nanos(head.end),
-                resolution: resolution,
-                start_state: state,
-                end_reason: OptEndReason::Present(reason),
+                start: Nanos(w.head.start),
+                end: Nanos(w.head.end),
+                resolution: w.head.resolution,
+                start_state: w.head.state,
+                end_reason: Some(w.head.reason),
             },
-            forward: direction_from(forward),
-            reverse: direction_from(reverse),
+            forward: direction_from(w.forward),
+            reverse: direction_from(w.reverse),
             network: NetworkStats {
-                ttl: range8_from(least_ttl, greatest_ttl),
-                dscp: dscp,
-                ecn: ecn,
+                ttl: range_from(w.tail.least_ttl, w.tail.greatest_ttl),
+                dscp: w.tail.dscp,
+                ecn: w.tail.ecn,
             },
-            transport: TransportStats { icmp: icmp },
+            transport: TransportStats { icmp: w.tail.icmp },
             capture: CaptureStats {
-                captured_octets: tail.captured_octets,
-                truncated: tail.truncated,
+                captured_octets: w.tail.captured_octets,
+                truncated: w.tail.truncated,
             },
         },
     }
 }
 
-// What reading one record answers: the flow and the place behind it; Record, refusal 8; Short, refusal 9.
-#[derive(Clone, Copy)]
-pub enum ReadRecord {
-    Value(Flow, usize),
-    Record,
-    Short,
+fn head_fields(time: FlowTime) -> HeadFields
+    ensures { result ≡ head_fields time }
+{
+    HeadFields {
+        reason: time.end_reason.unwrap_or(EndReason::IdleTimeout),
+        state: time.start_state,
+        resolution: time.resolution,
+        start: time.start.0,
+        end: time.end.0,
+    }
 }
+
+fn direction_fields(d: DirectionStats) -> DirectionFields
+    ensures { result ≡ direction_fields d }
+{
+    DirectionFields {
+        packets: d.packets,
+        frame_octets: d.frame_octets,
+        least: least_of(d.packet_length),
+        greatest: greatest_of(d.packet_length),
+        flags: d.tcp_flags,
+    }
+}
+
+fn tail_fields(
+    network: NetworkStats,
+    transport: TransportStats,
+    capture: CaptureStats,
+) -> TailFields
+    ensures { result ≡ tail_fields network transport capture }
+{
+    TailFields {
+        least_ttl: least_of(network.ttl),
+        greatest_ttl: greatest_of(network.ttl),
+        dscp: network.dscp,
+        ecn: network.ecn,
+        icmp: transport.icmp,
+        captured_octets: capture.captured_octets,
+        truncated: capture.truncated,
+    }
+}
+
+#[tactic(auto, unfolding(crate::specs::RecordForm::fields_of))]
+fn fields_of(f: Flow) -> RecordFields
+    ensures { result ≡ fields_of f }
+{
+    let record = f.record;
+    RecordFields {
+        head: head_fields(record.time),
+        forward: direction_fields(record.forward),
+        reverse: direction_fields(record.reverse),
+        tail: tail_fields(record.network, record.transport, record.capture),
+        key: f.key,
+    }
+}
+
+// ---- the numbers that stand for the bounds of a range
+
+fn least_number<T: Number>(range: Option<Range<T>>) -> u64
+    ensures { result ≡ optional_of T.number_of (least_of range) }
+{
+    optional_number(least_of(range))
+}
+
+fn greatest_number<T: Number>(range: Option<Range<T>>) -> u64
+    ensures { result ≡ optional_of T.number_of (greatest_of range) }
+{
+    optional_number(greatest_of(range))
+}
+
+/// The number that stands for the least of 32 bits.
+#[tactic(auto, using(forms::specs::NumberLaws::same32))]
+pub fn least_number32(range: Option<Range<u32>>) -> u64
+    ensures { result ≡ number32 (least_of32 range) }
+{
+    least_number(range)
+}
+
+/// The number that stands for the greatest of 32 bits.
+#[tactic(auto, using(forms::specs::NumberLaws::same32))]
+pub fn greatest_number32(range: Option<Range<u32>>) -> u64
+    ensures { result ≡ number32 (greatest_of32 range) }
+{
+    greatest_number(range)
+}
+
+/// The number that stands for the least of 8 bits.
+#[tactic(auto, using(forms::specs::NumberLaws::same8))]
+pub fn least_number8(range: Option<Range<u8>>) -> u64
+    ensures { result ≡ number8 (least_of8 range) }
+{
+    least_number(range)
+}
+
+/// The number that stands for the greatest of 8 bits.
+#[tactic(auto, using(forms::specs::NumberLaws::same8))]
+pub fn greatest_number8(range: Option<Range<u8>>) -> u64
+    ensures { result ≡ number8 (greatest_of8 range) }
+{
+    greatest_number(range)
+}
+
+// ---- the record in a buffer
 
 // The flow of fields that were read, where they are sound.
-fn sound_record(w: RecordFields, next: usize) -> ReadRecord
-    ensures { record_read result ≡ record_answer (got w next) }
+#[tactic(auto, unfolding(crate::specs::RecordForm::sound_fields))]
+fn sound_record(w: RecordFields, next: usize) -> Result<(Flow, usize), Refusal>
+    ensures { answer_of result ≡ record_answer (got w next) }
 {
     let flow = flow_from(w);
-    let record = flow.record;
-    if paired_fields(w) {
-        if sound(record) {
-            return ReadRecord::Value(flow, next);
-        }
-        return ReadRecord::Record;
+    if !paired_fields(w) {
+        return Err(Refusal::Record);
     }
-    ReadRecord::Record
+    if !sound(flow.record) {
+        return Err(Refusal::Record);
+    }
+    Ok((flow, next))
 }
 
-// The record at `at`.
-pub fn read_record_at(s: &[u8], at: usize) -> ReadRecord
-    ensures { record_read result ≡ record_answer (read_at fields s.now at) }
+/// The record at `at`, and the place behind it.
+pub fn read_record_at(s: &[u8], at: usize) -> Result<(Flow, usize), Refusal>
+    ensures { answer_of result ≡ record_answer (read_at fields s.now at) }
 {
-    let field = fields_field(s, Next::At(at));
-    let w = field.value;
-    let next = field.next;
-    match next {
-        Next::At(n) => sound_record(w, n),
-        Next::Short => ReadRecord::Short,
-        Next::Refused => ReadRecord::Record,
+    match read_at(s, at) {
+        Ok((w, next)) => sound_record(w, next),
+        Err(Stop::Short) => Err(Refusal::Short),
+        Err(Stop::Refused) => Err(Refusal::Record),
     }
 }
 
-// The record that the buffer begins with.
-pub fn read_record(s: &[u8]) -> ReadRecord
-    ensures { record_read result ≡ read_record s.now }
+/// The record that the buffer begins with, and how many bytes it takes.
+pub fn read_record(s: &[u8]) -> Result<(Flow, usize), Refusal>
+    ensures { answer_of result ≡ read_record s.now }
 {
-    if s.len() == 0 {
-        return ReadRecord::Record;
+    if s.is_empty() {
+        return Err(Refusal::Record);
     }
     read_record_at(s, 0)
 }
 
-// ---- lengths
-
-// The numbers that stand for the bounds of a range.
-pub fn least_number32(range: OptRange32) -> u64
-    ensures { result ≡ number32 (least_of32 range) }
-{
-    match range {
-        OptRange32::Absent => 0,
-        OptRange32::Present(bounds) => bounds.min as u64 + 1,
-    }
-}
-
-pub fn greatest_number32(range: OptRange32) -> u64
-    ensures { result ≡ number32 (greatest_of32 range) }
-{
-    match range {
-        OptRange32::Absent => 0,
-        OptRange32::Present(bounds) => bounds.max as u64 + 1,
-    }
-}
-
-pub fn least_number8(range: OptRange8) -> u64
-    ensures { result ≡ number8 (least_of8 range) }
-{
-    match range {
-        OptRange8::Absent => 0,
-        OptRange8::Present(bounds) => bounds.min as u64 + 1,
-    }
-}
-
-pub fn greatest_number8(range: OptRange8) -> u64
-    ensures { result ≡ number8 (greatest_of8 range) }
-{
-    match range {
-        OptRange8::Absent => 0,
-        OptRange8::Present(bounds) => bounds.max as u64 + 1,
-    }
-}
-
-// The schema and each of the three cases take one byte.
-fn head_len(time: FlowTime) -> usize
-    ensures { Sized (head.write (head_fields time)) 24 result }
-{
-    let start = time.start;
-    let end = time.end;
-    4 + number_len(start.0) + number_len(end.0)
-}
-
-fn flags_len(c: TcpFlagCounts) -> usize
-    ensures { Sized (flags.write c) 90 result }
-{
-    let first = number_len(c.fin) + number_len(c.syn) + number_len(c.rst);
-    let second = number_len(c.psh) + number_len(c.ack) + number_len(c.urg);
-    let third = number_len(c.ece) + number_len(c.cwr) + number_len(c.ns);
-    first + second + third
-}
-
-fn direction_len(d: DirectionStats) -> usize
-    ensures { Sized (direction.write (direction_fields d)) 130 result }
-{
-    let length = d.packet_length;
-    let counts = d.tcp_flags;
-    let sums = number_len(d.packets) + number_len(d.frame_octets);
-    let bounds = number_len(least_number32(length)) + number_len(greatest_number32(length));
-    sums + bounds + flags_len(counts)
-}
-
-fn tail_len(network: NetworkStats, transport: TransportStats, capture: CaptureStats) -> usize
-    ensures { Sized (tail.write (tail_fields network transport capture)) 61 result }
-{
-    let ttl = network.ttl;
-    let dscp = network.dscp;
-    let ecn = network.ecn;
-    let icmp = transport.icmp;
-    let bounds = number_len(least_number8(ttl)) + number_len(greatest_number8(ttl));
-    let marks = number_len(opt_u8_number(dscp)) + number_len(opt_u8_number(ecn));
-    bounds + marks + number_len(opt_u16_number(icmp)) + number_len(capture.captured_octets) + 1
-}
-
-// How many bytes a flow's record takes.
+/// How many bytes a flow's record takes.
+#[tactic(auto, unfolding(crate::specs::RecordForm::record_bytes))]
 pub fn record_len(f: Flow) -> usize
     ensures { Sized (record_bytes f) 473 result }
 {
-    let key = f.key;
-    let record = f.record;
-    let time = record.time;
-    let forward = record.forward;
-    let reverse = record.reverse;
-    let network = record.network;
-    let transport = record.transport;
-    let capture = record.capture;
-    let ways = direction_len(forward) + direction_len(reverse);
-    head_len(time) + ways + tail_len(network, transport, capture) + key_len(key)
+    fields_of(f).len()
 }
 
-// ---- writing
-
-fn write_head(out: &mut [u8], place: Place, time: FlowTime) -> Place
-    ensures { Put out.old place (head.write (head_fields time)) out.new result }
-{
-    let reason = time.end_reason;
-    let state = time.start_state;
-    let resolution = time.resolution;
-    let start = time.start;
-    let end = time.end;
-    let behind_schema = write_byte(out, place, 1);
-    let behind_reason = write_number(out, behind_schema, reason_number(reason));
-    let behind_state = write_number(out, behind_reason, state_number(state));
-    let behind_resolution = write_number(out, behind_state, resolution_number(resolution));
-    let behind_start = write_number(out, behind_resolution, start.0);
-    write_number(out, behind_start, end.0)
-}
-
-fn write_flags(out: &mut [u8], place: Place, c: TcpFlagCounts) -> Place
-    ensures { Put out.old place (flags.write c) out.new result }
-{
-    let behind_fin = write_number(out, place, c.fin);
-    let behind_syn = write_number(out, behind_fin, c.syn);
-    let behind_rst = write_number(out, behind_syn, c.rst);
-    let behind_psh = write_number(out, behind_rst, c.psh);
-    let behind_ack = write_number(out, behind_psh, c.ack);
-    let behind_urg = write_number(out, behind_ack, c.urg);
-    let behind_ece = write_number(out, behind_urg, c.ece);
-    let behind_cwr = write_number(out, behind_ece, c.cwr);
-    write_number(out, behind_cwr, c.ns)
-}
-
-fn write_direction(out: &mut [u8], place: Place, d: DirectionStats) -> Place
-    ensures { Put out.old place (direction.write (direction_fields d)) out.new result }
-{
-    let length = d.packet_length;
-    let counts = d.tcp_flags;
-    let behind_packets = write_number(out, place, d.packets);
-    let behind_octets = write_number(out, behind_packets, d.frame_octets);
-    let behind_least = write_number(out, behind_octets, least_number32(length));
-    let behind_greatest = write_number(out, behind_least, greatest_number32(length));
-    write_flags(out, behind_greatest, counts)
-}
-
-fn write_tail(
-    out: &mut [u8],
-    place: Place,
-    network: NetworkStats,
-    transport: TransportStats,
-    capture: CaptureStats,
-) -> Place
-    ensures { Put out.old place (tail.write (tail_fields network transport capture)) out.new result }
-{
-    let ttl = network.ttl;
-    let dscp = network.dscp;
-    let ecn = network.ecn;
-    let icmp = transport.icmp;
-    let behind_least = write_number(out, place, least_number8(ttl));
-    let behind_greatest = write_number(out, behind_least, greatest_number8(ttl));
-    let behind_dscp = write_number(out, behind_greatest, opt_u8_number(dscp));
-    let behind_ecn = write_number(out, behind_dscp, opt_u8_number(ecn));
-    let behind_icmp = write_number(out, behind_ecn, opt_u16_number(icmp));
-    let behind_captured = write_number(out, behind_icmp, capture.captured_octets);
-    write_number(out, behind_captured, bit_number(capture.truncated))
-}
-
-// The record's form from `place` on, and the place behind it.
-pub fn write_record_at(out: &mut [u8], place: Place, f: Flow) -> Place
+/// The record's form from `place` on, and the place behind it.
+#[tactic(auto, unfolding(crate::specs::RecordForm::record_bytes))]
+pub fn write_record_at(out: &mut [u8], place: Option<usize>, f: Flow) -> Option<usize>
     ensures { Put out.old place (record_bytes f) out.new result }
 {
-    let key = f.key;
-    let record = f.record;
-    let time = record.time;
-    let forward = record.forward;
-    let reverse = record.reverse;
-    let network = record.network;
-    let transport = record.transport;
-    let capture = record.capture;
-    let behind_head = write_head(out, place, time);
-    let behind_forward = write_direction(out, behind_head, forward);
-    let behind_reverse = write_direction(out, behind_forward, reverse);
-    let behind_tail = write_tail(out, behind_reverse, network, transport, capture);
-    write_key_at(out, behind_tail, key)
+    put(out, place, &fields_of(f))
 }
 
-// What writing one record into a buffer answers: the bytes written; Damaged, refusal 3; Room, refusal 7.
-#[derive(Clone, Copy)]
-pub enum WroteRecord {
-    Bytes(usize),
-    Damaged,
-    Room,
-}
-
-// A sound record at the front of `out`; or Room.
-fn write_sound(out: &mut [u8], f: Flow) -> WroteRecord
-    ensures { (record_wrote result, out.new) ≡ write_one 3 true (record_bytes f) out.old }
+/// The record's form at the front of `out`, whose other bytes stay as they are; refused, all of them do.
+#[tactic(auto, using(crate::specs::RecordWrite::lone_sound_lem, crate::specs::RecordWrite::lone_damaged), unfolding(crate::specs::RecordForm::record_bytes))]
+pub fn write_record(out: &mut [u8], f: Flow) -> Result<usize, Refusal>
+    ensures { (written_of result, out.new) ≡ write_one 3 (sound_record f.«record») (record_bytes f) out.old }
 {
-    let n = record_len(f);
-    if out.len() < n {
-        return WroteRecord::Room;
+    if sound(f.record) {
+        return write_lone(out, &fields_of(f));
     }
-    write_record_at(out, Place::At(0), f);
-    WroteRecord::Bytes(n)
+    Err(Refusal::Damaged)
 }
 
-// The record's form at the front of `out`, whose other bytes stay as they are; refused, all of them do.
-pub fn write_record(out: &mut [u8], f: Flow) -> WroteRecord
-    ensures { (record_wrote result, out.new) ≡ write_one 3 (sound_record f.«record») (record_bytes f) out.old }
-{
-    let record = f.record;
-    if sound(record) {
-        return write_sound(out, f);
-    }
-    WroteRecord::Damaged
-}
-
-fn bytes_written(wrote: WroteRecord) -> usize
+fn bytes_written(wrote: Result<usize, Refusal>) -> usize
     ensures { result ≡ bytes_written wrote }
 {
-    match wrote {
-        WroteRecord::Bytes(n) => n,
-        WroteRecord::Damaged => 0,
-        WroteRecord::Room => 0,
-    }
+    wrote.unwrap_or(0)
 }
 
-// The same, and the part of `out` that the record fills; refused, the empty part, which no record fills.
+/// The same, and the part of `out` that the record fills; refused, the empty part, which no record fills.
 pub fn filled_record(out: &mut [u8], f: Flow) -> &mut [u8]
     ensures { result.now ≡ filled_record f out.old }
 {

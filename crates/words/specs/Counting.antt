@@ -1,11 +1,10 @@
 -- One packet counted on a record's words: what each part asks of its own words, and that the parts' words are those of the record.
 -- Assumes nothing.
-use Rattle.std.specs.Prelude.{ℕ, ◌+◌, ◌^◌, ◌≤◌, ◌<◌, ◌≡◌, refl, true, eqb, length, get_or, drop, replicate}
+use Rattle.std.specs.Prelude.{ℕ, ◌+◌, ◌^◌, ◌≤◌, ◌<◌, ◌≡◌, refl, true, eqb, length, get_or, drop, replicate, Option}
 use Rattle.std.proofs.Common.{sym, ◌∙◌, subst, add-zero, arith, length-drop, length-take-le, get_or-take, get_or-drop}
 use Rattle.std.proofs.Math.Path.{ap}
 use mathlib.Core.List.{List}
 use Rattle.std.proofs.Math.ListN.{take}
-use Rattle.forms.specs.declared.optional.OptU16.{OptU16}
 use Rattle.stats.specs.Counting.{counted_direction, RoomForPacket}
 use Rattle.stats.specs.declared.counts.DirectionStats.{DirectionStats}
 use Rattle.stats.specs.declared.counts.NetworkStats.{NetworkStats}
@@ -88,7 +87,7 @@ shared_fits ws p n e room =
     word i h = get_or-take 11 ws i 0 h
 
 -- the words that the code makes of its parts
-pub shared_made : (ws : List ℕ) (p : PacketFacts) {before time : FlowTime} {mask : ℕ} {held network : NetworkStats} {icmp kept : OptU16}
+pub shared_made : (ws : List ℕ) (p : PacketFacts) {before time : FlowTime} {mask : ℕ} {held network : NetworkStats} {icmp kept : Option ℕ}
     {capture : CaptureStats} {words : List ℕ}
     → before ≡ time_at ws → mask ≡ mask_of p.tcp_flags → time ≡ counted_time before p.time mask
     → held ≡ network_at ws → network ≡ counted_network held p.ttl

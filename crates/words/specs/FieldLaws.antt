@@ -1,18 +1,15 @@
 -- Laws of the fields: what the code answers, that a field is read back from its word, and that a word that fits is written back.
 -- Assumes nothing.
-use Rattle.std.specs.Prelude.{ℕ, zero, suc, min, ◌-◌, ◌≤◌, ◌≡◌, refl, Bool, true, false, ◌&&◌, ◌||◌, leb, ltb, eqb}
+use Rattle.std.specs.Prelude.{ℕ, zero, suc, min, ◌-◌, ◌≤◌, ◌≡◌, refl, Bool, true, false, ◌&&◌, ◌||◌, leb, ltb, eqb, None, Option, Some}
 use Rattle.std.proofs.Common.{ap, arith, add-one, leb-true, ltb-true, eqb-true, le-leb, lt-ltb}
 use Rattle.std.proofs.lemmas.Bool.{false≢true}
 use Rattle.forms.specs.Optional.{to_opt, number8, number16, number32}
-use Rattle.forms.specs.declared.optional.OptU8.{OptU8}
-use Rattle.forms.specs.declared.optional.OptU16.{OptU16}
-use Rattle.stats.specs.declared.range.OptRange8.{OptRange8}
-use Rattle.stats.specs.declared.range.OptRange32.{OptRange32}
 use Rattle.flow.specs.declared.time.StartState.{StartState}
 use Rattle.flow.specs.declared.time.TimeResolution.{TimeResolution}
 use Rattle.flow.specs.SoundLaws.{both}
 use Rattle.wire.specs.RecordForm.{state_number, state_from, resolution_number, resolution_from, bit_number, least_of8, greatest_of8, least_of32, greatest_of32}
 use Rattle.words.specs.Fields.{opt8_at, opt16_at, range8_at, range32_at, bounds_fit, BoundsFit}
+use Rattle.stats.specs.declared.range.Range.{Range}
 
 -- ---- what the code answers, by cases
 
@@ -24,11 +21,11 @@ pub present_at : {A : Type 0} (absent : A) (present : ℕ → A) (w : ℕ) → (
 present_at absent present zero h = absurd (h refl)
 present_at absent present (suc w) h = ap present (less_one w)
 
-pub range8_present : (l g : ℕ) → (l ≡ 0 → ⊥) → OptRange8.Present (record { min = l - 1; max = g - 1 }) ≡ range8_at l g
+pub range8_present : (l g : ℕ) → (l ≡ 0 → ⊥) → Some (record { min = l - 1; max = g - 1 }) ≡ range8_at l g
 range8_present zero g h = absurd (h refl)
 range8_present (suc l) g h = rw less_one
 
-pub range32_present : (l g : ℕ) → (l ≡ 0 → ⊥) → OptRange32.Present (record { min = l - 1; max = g - 1 }) ≡ range32_at l g
+pub range32_present : (l g : ℕ) → (l ≡ 0 → ⊥) → Some (record { min = l - 1; max = g - 1 }) ≡ range32_at l g
 range32_present zero g h = absurd (h refl)
 range32_present (suc l) g h = rw less_one
 
@@ -82,21 +79,21 @@ pub bit_back : (b : Bool) → eqb (bit_number b) 1 ≡ b
 bit_back true = refl
 bit_back false = refl
 
-pub opt8_back : (o : OptU8) → opt8_at (number8 o) ≡ o
-opt8_back OptU8.Absent = refl
-opt8_back (OptU8.Present v) = rw add-one
+pub opt8_back : (o : Option ℕ) → opt8_at (number8 o) ≡ o
+opt8_back None = refl
+opt8_back (Some v) = rw add-one
 
-pub opt16_back : (o : OptU16) → opt16_at (number16 o) ≡ o
-opt16_back OptU16.Absent = refl
-opt16_back (OptU16.Present v) = rw add-one
+pub opt16_back : (o : Option ℕ) → opt16_at (number16 o) ≡ o
+opt16_back None = refl
+opt16_back (Some v) = rw add-one
 
-pub range8_back : (o : OptRange8) → range8_at (number8 (least_of8 o)) (number8 (greatest_of8 o)) ≡ o
-range8_back OptRange8.Absent = refl
-range8_back (OptRange8.Present r) = simp (add-one, less_one)
+pub range8_back : (o : Option (Range ℕ)) → range8_at (number8 (least_of8 o)) (number8 (greatest_of8 o)) ≡ o
+range8_back None = refl
+range8_back (Some r) = simp (add-one, less_one)
 
-pub range32_back : (o : OptRange32) → range32_at (number32 (least_of32 o)) (number32 (greatest_of32 o)) ≡ o
-range32_back OptRange32.Absent = refl
-range32_back (OptRange32.Present r) = simp (add-one, less_one)
+pub range32_back : (o : Option (Range ℕ)) → range32_at (number32 (least_of32 o)) (number32 (greatest_of32 o)) ≡ o
+range32_back None = refl
+range32_back (Some r) = simp (add-one, less_one)
 
 -- ---- a word that fits is written back
 
@@ -153,10 +150,10 @@ pub bit_fits : (b : Bool) → bit_number b ≤ 1
 bit_fits true = omega arith
 bit_fits false = omega arith
 
-pub range8_fits : (most : ℕ) (o : OptRange8) → number8 (least_of8 o) ≤ most → number8 (greatest_of8 o) ≤ most → BoundsFit most (number8 (least_of8 o)) (number8 (greatest_of8 o))
-range8_fits most OptRange8.Absent l g = record { least_fits = l; greatest_fits = g; paired = refl }
-range8_fits most (OptRange8.Present r) l g = record { least_fits = l; greatest_fits = g; paired = omega arith }
+pub range8_fits : (most : ℕ) (o : Option (Range ℕ)) → number8 (least_of8 o) ≤ most → number8 (greatest_of8 o) ≤ most → BoundsFit most (number8 (least_of8 o)) (number8 (greatest_of8 o))
+range8_fits most None l g = record { least_fits = l; greatest_fits = g; paired = refl }
+range8_fits most (Some r) l g = record { least_fits = l; greatest_fits = g; paired = omega arith }
 
-pub range32_fits : (most : ℕ) (o : OptRange32) → number32 (least_of32 o) ≤ most → number32 (greatest_of32 o) ≤ most → BoundsFit most (number32 (least_of32 o)) (number32 (greatest_of32 o))
-range32_fits most OptRange32.Absent l g = record { least_fits = l; greatest_fits = g; paired = refl }
-range32_fits most (OptRange32.Present r) l g = record { least_fits = l; greatest_fits = g; paired = omega arith }
+pub range32_fits : (most : ℕ) (o : Option (Range ℕ)) → number32 (least_of32 o) ≤ most → number32 (greatest_of32 o) ≤ most → BoundsFit most (number32 (least_of32 o)) (number32 (greatest_of32 o))
+range32_fits most None l g = record { least_fits = l; greatest_fits = g; paired = refl }
+range32_fits most (Some r) l g = record { least_fits = l; greatest_fits = g; paired = omega arith }

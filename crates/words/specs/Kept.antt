@@ -1,15 +1,11 @@
 -- A record is read back from its words, and words that fit are those of the record that they stand for. Assumes nothing.
-use Rattle.std.specs.Prelude.{ℕ, zero, suc, ◌+◌, ◌^◌, ◌≤◌, ◌<◌, ◌≡◌, refl, Bool, true, ◌&&◌, List, [], ◌∷◌, ◌++◌, ltb, length, get_or, drop}
+use Rattle.std.specs.Prelude.{ℕ, zero, suc, ◌+◌, ◌^◌, ◌≤◌, ◌<◌, ◌≡◌, refl, Bool, true, ◌&&◌, List, [], ◌∷◌, ◌++◌, ltb, length, get_or, drop, None, Option}
 use Rattle.std.proofs.Common.{sym, ap, ◌∙◌, arith, le-leb, lt-ltb, ltb-true, drop-cons}
 use Rattle.std.proofs.Math.Seq.{drop-length}
 use Rattle.forms.specs.Optional.{number8, number16, number32}
 use Rattle.stats.specs.Counting.{FlagsUpTo}
-use Rattle.stats.specs.declared.range.OptRange8.{OptRange8}
-use Rattle.stats.specs.declared.range.OptRange32.{OptRange32}
 use Rattle.stats.specs.declared.counts.TcpFlagCounts.{TcpFlagCounts}
 use Rattle.stats.specs.declared.counts.DirectionStats.{DirectionStats}
-use Rattle.flow.specs.declared.time.OptEndReason.{OptEndReason}
-use Rattle.flow.specs.declared.time.OptEndReason.TheVariants.{Absent}
 use Rattle.flow.specs.declared.record.FlowRecord.{FlowRecord}
 use Rattle.flow.specs.Sound.{sound_aside}
 use Rattle.flow.specs.SoundLaws.{both, SoundFacts, sound_facts}
@@ -18,11 +14,13 @@ use Rattle.words.specs.Fields.{range8_at, range32_at, bounds_fit, BoundsFit}
 use Rattle.words.specs.FieldLaws.{bounds_made, state_back, resolution_back, bit_back, opt8_back, opt16_back, range8_back, range32_back, state_written, resolution_written, bit_written, opt8_written, opt16_written, least8_written, greatest8_written, least32_written, greatest32_written, state_fits, resolution_fits, bit_fits, range8_fits, range32_fits}
 use Rattle.words.specs.Words.{shared_words, flag_words, direction_words, words_of, direction_at, record_of, words_fit}
 use Rattle.words.specs.WordLaws.{fit_facts}
+use Rattle.flow.specs.declared.time.EndReason.{EndReason}
+use Rattle.stats.specs.declared.range.Range.{Range}
 
 -- ---- from a record to words and back
 
 -- the record with another end reason
-abbrev with_reason : FlowRecord → OptEndReason → FlowRecord
+abbrev with_reason : FlowRecord → Option EndReason → FlowRecord
 with_reason r reason = record {
   time = record { start = r.time.start; end = r.time.end; resolution = r.time.resolution; start_state = r.time.start_state; end_reason = reason };
   forward = r.forward;
@@ -32,7 +30,7 @@ with_reason r reason = record {
   capture = r.capture;
 }
 
-opened_back : (r : FlowRecord) → record_of (words_of r) ≡ with_reason r Absent
+opened_back : (r : FlowRecord) → record_of (words_of r) ≡ with_reason r None
 unfolding record_of words_of direction_at
 opened_back r =
     simp (
@@ -48,11 +46,11 @@ opened_back r =
     )
 
 -- an open flow's record is read back
-pub record_back : (r : FlowRecord) → r.time.end_reason ≡ Absent → record_of (words_of r) ≡ r
+pub record_back : (r : FlowRecord) → r.time.end_reason ≡ None → record_of (words_of r) ≡ r
 record_back r e = opened_back r ∙ ap (with_reason r) (sym e)
 
 -- words stand for an open flow
-pub open_record : (ws : List ℕ) → (record_of ws).time.end_reason ≡ Absent
+pub open_record : (ws : List ℕ) → (record_of ws).time.end_reason ≡ None
 unfolding record_of
 open_record ws = refl
 
@@ -117,10 +115,10 @@ pub record RecordInRange (r : FlowRecord) : Type 0 where
   pub icmp : number16 r.transport.icmp ≤ 2 ^ 16
   pub captured : r.capture.captured_octets < 2 ^ 64
 
-ttl_fits_lem : (o : OptRange8) → TtlInRange o → bounds_fit (2 ^ 8) (number8 (least_of8 o)) (number8 (greatest_of8 o)) ≡ true
+ttl_fits_lem : (o : Option (Range ℕ)) → TtlInRange o → bounds_fit (2 ^ 8) (number8 (least_of8 o)) (number8 (greatest_of8 o)) ≡ true
 ttl_fits_lem o h = bounds_made (2 ^ 8) (number8 (least_of8 o)) (number8 (greatest_of8 o)) (range8_fits (2 ^ 8) o h.0 h.1)
 
-lengths_fit_lem : (o : OptRange32) → LengthsInRange o → bounds_fit (2 ^ 32) (number32 (least_of32 o)) (number32 (greatest_of32 o)) ≡ true
+lengths_fit_lem : (o : Option (Range ℕ)) → LengthsInRange o → bounds_fit (2 ^ 32) (number32 (least_of32 o)) (number32 (greatest_of32 o)) ≡ true
 lengths_fit_lem o h = bounds_made (2 ^ 32) (number32 (least_of32 o)) (number32 (greatest_of32 o)) (range32_fits (2 ^ 32) o h.0 h.1)
 
 -- the words of a record in range fit

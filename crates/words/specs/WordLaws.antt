@@ -1,7 +1,6 @@
 -- What the test of the words says of them, and what the code answers. Assumes nothing.
-use Rattle.std.specs.Prelude.{ℕ, ◌^◌, ◌≤◌, ◌≡◌, true, List, eqb, get_or, replicate}
+use Rattle.std.specs.Prelude.{ℕ, ◌^◌, ◌≤◌, ◌≡◌, true, List, eqb, get_or, replicate, Option}
 use Rattle.std.proofs.Common.{leb-true}
-use Rattle.forms.specs.declared.optional.OptU16.{OptU16}
 use Rattle.stats.specs.declared.counts.DirectionStats.{DirectionStats}
 use Rattle.stats.specs.declared.counts.NetworkStats.{NetworkStats}
 use Rattle.flow.specs.declared.time.FlowTime.{FlowTime}
@@ -60,7 +59,7 @@ reverse_fits ws e = (fit_facts ws e).reverse
 -- ---- what the code answers
 
 -- a record of its parts
-pub record_made : (ws : List ℕ) {time : FlowTime} {forward reverse : DirectionStats} {network : NetworkStats} {icmp : OptU16}
+pub record_made : (ws : List ℕ) {time : FlowTime} {forward reverse : DirectionStats} {network : NetworkStats} {icmp : Option ℕ}
     → time ≡ time_at ws → forward ≡ direction_at ws 11 → reverse ≡ direction_at ws 24 → network ≡ network_at ws → icmp ≡ opt16_at (get_or ws 8 0)
     → record {
       time = time;

@@ -1,21 +1,20 @@
 -- A flow's record as 37 words, and back. Assumes nothing.
-use Rattle.std.specs.Prelude.{ℕ, suc, ◌+◌, ◌^◌, ◌≤◌, Bool, ◌&&◌, List, [], ◌∷◌, ◌++◌, leb, eqb, get_or, set}
+use Rattle.std.specs.Prelude.{ℕ, suc, ◌+◌, ◌^◌, ◌≤◌, Bool, ◌&&◌, List, [], ◌∷◌, ◌++◌, leb, eqb, get_or, set, None, Option}
 use Rattle.forms.specs.Optional.{number8, number16, number32}
-use Rattle.forms.specs.declared.optional.OptU16.{OptU16}
 use Rattle.stats.specs.declared.counts.TcpFlagCounts.{TcpFlagCounts}
 use Rattle.stats.specs.declared.counts.DirectionStats.{DirectionStats}
 use Rattle.stats.specs.declared.counts.NetworkStats.{NetworkStats}
 use Rattle.stats.specs.declared.counts.CaptureStats.{CaptureStats}
-use Rattle.flow.specs.declared.time.OptEndReason.{OptEndReason}
 use Rattle.flow.specs.declared.time.FlowTime.{FlowTime}
 use Rattle.flow.specs.declared.record.FlowRecord.{FlowRecord}
 use Rattle.wire.specs.RecordForm.{state_number, state_from, resolution_number, resolution_from, bit_number, least_of8, greatest_of8, least_of32, greatest_of32}
 use Rattle.words.specs.Fields.{opt8_at, opt16_at, range8_at, range32_at, bounds_fit, BoundsFit}
+use Rattle.flow.specs.declared.time.EndReason.{EndReason}
 
 -- ---- the words of a record
 
 -- what belongs to no direction: 11 words
-abbrev pub shared_parts : FlowTime → NetworkStats → OptU16 → CaptureStats → List ℕ
+abbrev pub shared_parts : FlowTime → NetworkStats → Option ℕ → CaptureStats → List ℕ
 shared_parts time network icmp capture =
     time.start.0 ∷ time.end.0 ∷ state_number time.start_state ∷ resolution_number time.resolution
     ∷ number8 (least_of8 network.ttl) ∷ number8 (greatest_of8 network.ttl) ∷ number8 network.dscp ∷ number8 network.ecn
@@ -52,7 +51,7 @@ time_at ws = record {
   end = record { 0 = get_or ws 1 0 };
   resolution = resolution_from (get_or ws 3 0);
   start_state = state_from (get_or ws 2 0);
-  end_reason = OptEndReason.Absent;
+  end_reason = None;
 }
 
 -- TTL, DSCP and ECN

@@ -12,19 +12,15 @@ use flow::record::{PacketFacts, counted_capture, counted_network, first_of, mask
 use stats::counts::CaptureStats;
 
 // The eleven shared words of a record with the packet counted.
+#[tactic(auto, using(crate::specs::Counting::shared_made))]
 pub fn counted_shared(ws: &[u64], packet: PacketFacts) -> [u64; 11]
     requires { SharedFits ws.now packet }
     ensures { result ≡ shared_words (counted_of (record_of ws.now) Direction.Forward packet) }
 {
-    let at = packet.time;
-    let flags = packet.tcp_flags;
-    let value = packet.ttl;
-    let seen = packet.icmp;
-    let before = time_at(ws);
-    let time = before.observe(at, mask_of(flags));
-    let network = counted_network(network_at(ws), value);
-    let icmp = ws[8];
-    let kept = first_of(opt_u16_at(icmp), seen);
+    let mask = mask_of(packet.tcp_flags);
+    let time = time_at(ws).observe(packet.time, mask);
+    let network = counted_network(network_at(ws), packet.ttl);
+    let icmp = first_of(opt_u16_at(ws[8]), packet.icmp);
     let capture = counted_capture(
         CaptureStats {
             captured_octets: ws[9],
@@ -33,18 +29,17 @@ pub fn counted_shared(ws: &[u64], packet: PacketFacts) -> [u64; 11]
         packet,
     );
     let mut words = [0u64; 11];
-    put_shared(&mut words, time, network, kept, capture);
+    put_shared(&mut words, time, network, icmp, capture);
     words
 }
 
 // The thirteen words of a direction with the packet counted.
+#[tactic(auto, using(crate::specs::Counting::room_read, crate::specs::Counting::direction_made))]
 pub fn counted_direction(ws: &[u64], packet: PacketFacts) -> [u64; 13]
     requires { DirectionFits ws.now packet }
     ensures { result ≡ direction_words (taken (direction_at ws.now 0) packet) }
 {
-    let flags = packet.tcp_flags;
-    let before = direction_at(ws, 0);
-    let direction = before.observe(packet.frame_octets, mask_of(flags));
+    let direction = direction_at(ws, 0).observe(packet.frame_octets, mask_of(packet.tcp_flags));
     let mut words = [0u64; 13];
     put_direction(&mut words, 0, direction);
     words

@@ -7,8 +7,8 @@ ghost use Rattle.words.specs.Words.{shared_parts, direction_words, words_of, wri
 
 use crate::fields::{bounds_fit, opt_u8_at, opt_u16_at, range8_at, range32_at};
 use flow::record::FlowRecord;
-use flow::time::{FlowTime, Nanos, OptEndReason};
-use forms::optional::{OptU16, opt_u8_number, opt_u16_number};
+use flow::time::{FlowTime, Nanos};
+use forms::optional::{opt_u8_number, opt_u16_number};
 use stats::counts::{CaptureStats, DirectionStats, NetworkStats, TcpFlagCounts, TransportStats};
 use wire::record::{
     bit_number, greatest_number8, greatest_number32, least_number8, least_number32,
@@ -16,6 +16,7 @@ use wire::record::{
 };
 
 // Whether some record has these words.
+#[tactic(auto, unfolding(crate::specs::Words::words_fit, crate::specs::Fields::bounds_fit))]
 pub fn words_fit(ws: &[u64]) -> bool
     requires { length ws.now ≡ 37 }
     ensures { result ≡ words_fit ws.now }
@@ -40,7 +41,7 @@ pub(crate) fn time_at(ws: &[u64]) -> FlowTime
         end: Nanos(ws[1]),
         resolution: resolution_from(ws[3]),
         start_state: state_from(ws[2]),
-        end_reason: OptEndReason::Absent,
+        end_reason: None,
     }
 }
 
@@ -49,29 +50,24 @@ pub(crate) fn network_at(ws: &[u64]) -> NetworkStats
     requires network_fits { NetworkFits ws.now }
     ensures { result ≡ network_at ws.now }
 {
-    let least = ws[4];
-    let greatest = ws[5];
-    let dscp = ws[6];
-    let ecn = ws[7];
     NetworkStats {
-        ttl: range8_at(least, greatest),
-        dscp: opt_u8_at(dscp),
-        ecn: opt_u8_at(ecn),
+        ttl: range8_at(ws[4], ws[5]),
+        dscp: opt_u8_at(ws[6]),
+        ecn: opt_u8_at(ws[7]),
     }
 }
 
 // The direction whose 13 words begin at `at`.
+#[tactic(auto, unfolding(crate::specs::Words::direction_at))]
 pub(crate) fn direction_at(ws: &[u64], at: usize) -> DirectionStats
     requires at_in_bounds { at + 13 ≤ length ws.now }
     requires bounds_fit { BoundsFit (2 ^ 32) (get_or ws.now (at + 2) 0) (get_or ws.now (at + 3) 0) }
     ensures { result ≡ direction_at ws.now at }
 {
-    let least = ws[at + 2];
-    let greatest = ws[at + 3];
     DirectionStats {
         packets: ws[at],
         frame_octets: ws[at + 1],
-        packet_length: range32_at(least, greatest),
+        packet_length: range32_at(ws[at + 2], ws[at + 3]),
         tcp_flags: TcpFlagCounts {
             fin: ws[at + 4],
             syn: ws[at + 5],
@@ -92,14 +88,13 @@ pub fn record_of(ws: &[u64]) -> FlowRecord
     requires ws_value { words_fit ws.now ≡ true }
     ensures { result ≡ record_of ws.now }
 {
-    let icmp = ws[8];
     FlowRecord {
         time: time_at(ws),
         forward: direction_at(ws, 11),
         reverse: direction_at(ws, 24),
         network: network_at(ws),
         transport: TransportStats {
-            icmp: opt_u16_at(icmp),
+            icmp: opt_u16_at(ws[8]),
         },
         capture: CaptureStats {
             captured_octets: ws[9],
@@ -113,27 +108,20 @@ pub(crate) fn put_shared(
     words: &mut [u64],
     time: FlowTime,
     network: NetworkStats,
-    icmp: OptU16,
+    icmp: Option<u16>,
     capture: CaptureStats,
 )
     requires { 11 ≤ length words.old }
     ensures { words.new ≡ written words.old 0 0 (shared_parts time network icmp capture) }
 {
-    let start = time.start;
-    let end = time.end;
-    let state = time.start_state;
-    let resolution = time.resolution;
-    let ttl = network.ttl;
-    let dscp = network.dscp;
-    let ecn = network.ecn;
-    words[0] = start.0;
-    words[1] = end.0;
-    words[2] = state_number(state);
-    words[3] = resolution_number(resolution);
-    words[4] = least_number8(ttl);
-    words[5] = greatest_number8(ttl);
-    words[6] = opt_u8_number(dscp);
-    words[7] = opt_u8_number(ecn);
+    words[0] = time.start.0;
+    words[1] = time.end.0;
+    words[2] = state_number(time.start_state);
+    words[3] = resolution_number(time.resolution);
+    words[4] = least_number8(network.ttl);
+    words[5] = greatest_number8(network.ttl);
+    words[6] = opt_u8_number(network.dscp);
+    words[7] = opt_u8_number(network.ecn);
     words[8] = opt_u16_number(icmp);
     words[9] = capture.captured_octets;
     words[10] = bit_number(capture.truncated);
@@ -144,12 +132,11 @@ pub(crate) fn put_direction(words: &mut [u64], at: usize, direction: DirectionSt
     requires { at + 13 ≤ length words.old }
     ensures { words.new ≡ written words.old at 0 (direction_words direction) }
 {
-    let length = direction.packet_length;
     let flags = direction.tcp_flags;
     words[at] = direction.packets;
     words[at + 1] = direction.frame_octets;
-    words[at + 2] = least_number32(length);
-    words[at + 3] = greatest_number32(length);
+    words[at + 2] = least_number32(direction.packet_length);
+    words[at + 3] = greatest_number32(direction.packet_length);
     words[at + 4] = flags.fin;
     words[at + 5] = flags.syn;
     words[at + 6] = flags.rst;
@@ -165,16 +152,15 @@ pub(crate) fn put_direction(words: &mut [u64], at: usize, direction: DirectionSt
 pub fn words_of(record: FlowRecord) -> [u64; 37]
     ensures { result ≡ words_of «record» }
 {
-    let time = record.time;
-    let network = record.network;
-    let transport = record.transport;
-    let icmp = transport.icmp;
-    let capture = record.capture;
-    let forward = record.forward;
-    let reverse = record.reverse;
     let mut words = [0u64; 37];
-    put_shared(&mut words, time, network, icmp, capture);
-    put_direction(&mut words, 11, forward);
-    put_direction(&mut words, 24, reverse);
+    put_shared(
+        &mut words,
+        record.time,
+        record.network,
+        record.transport.icmp,
+        record.capture,
+    );
+    put_direction(&mut words, 11, record.forward);
+    put_direction(&mut words, 24, record.reverse);
     words
 }

@@ -1,29 +1,42 @@
 -- `index::find` meets its contract. Assumes nothing.
-use Rattle.index.proofs.Walk.{walk_begins, pass_tag, pass_other, entry_fits, walk_hits, walk_misses, walk_ends}
 use native.Mathlib.Omega.{arith}
+use mathlib.Core.Path.{refl}
 use borrow.Author.Rules.{rules}
+use Rattle.index.proofs.Agree.{agree_word}
+use Rattle.index.proofs.Walk.{pass_tag, pass_unused, pass_length, pass_word, pass_byte, walk_hits, walk_misses, walk_ends}
 use Rattle.index.proofs.find.Goals as goal
-
-pub loop-place-init : goal.loop-place-init
-loop-place-init c = search (walk_begins, rules)
-
-pub overflow_cast-entry : goal.overflow_cast-entry
-overflow_cast-entry c = omega (arith, c.shared_slice_known-in-loop-place-1.given c.loop-place.place)
 
 pub returns-then-entry-eq0 : goal.returns-then-entry-eq0
 returns-then-entry-eq0 c = search (walk_misses, rules)
 
-pub loop-place-preserved-then-entry-tag : goal.loop-place-preserved-then-entry-tag
-loop-place-preserved-then-entry-tag c = search (pass_tag, rules)
+pub slots-preserved-then-entry-tag : goal.slots-preserved-then-entry-tag
+slots-preserved-then-entry-tag c = pass_tag (omega arith) c.slots.invariant c.if-entry-tag.true
 
-pub holds_key-requires : goal.holds_key-requires
-holds_key-requires c = search (entry_fits, rules)
+pub slots-preserved-then-state-base-ne-USED : goal.slots-preserved-then-state-base-ne-USED
+slots-preserved-then-state-base-ne-USED c =
+    pass_unused refl (search rules) c.slots.invariant (omega (arith, c.requires.indexed.inside c.slots.place c.if-entry-eq0.false)) (search rules)
+    c.if-state-base-ne-USED.true
 
-pub returns-then-holds_key : goal.returns-then-holds_key
-returns-then-holds_key c = search (walk_hits, rules)
+pub slots-preserved-then-state-base : goal.slots-preserved-then-state-base
+slots-preserved-then-state-base c = search (pass_length, rules)
 
-pub loop-place-preserved : goal.loop-place-preserved
-loop-place-preserved c = search (pass_other, rules)
+pub slots-preserved-then-load_u64 : goal.slots-preserved-then-load_u64
+slots-preserved-then-load_u64 c =
+    pass_word refl (search rules) c.slots.invariant (omega (arith, c.requires.indexed.inside c.slots.place c.if-entry-eq0.false)) (search rules)
+    c.if-state-base.false _ _ _ (omega arith) c.load_u64.ensures c.load_u64-in-loop-word.ensures c.if-load_u64.true
+
+pub loop-word-preserved : goal.loop-word-preserved
+loop-word-preserved c =
+    agree_word _ (omega (arith, c.requires.indexed.inside c.slots.place c.if-entry-eq0.false)) (omega arith) (search rules) (search rules)
+    c.loop-word.invariant c.load_u64.ensures c.load_u64-in-loop-word.ensures c.if-load_u64.false
+
+pub slots-preserved : goal.slots-preserved
+slots-preserved c = search (pass_byte, rules)
+
+pub returns-in-slots : goal.returns-in-slots
+returns-in-slots c =
+    walk_hits c.requires.indexed c.slots.place c.if-entry-eq0.false c.args.key.now refl c.requires.no_key_twice
+    c.requires.capacity_in_bounds (search rules) c.if-state-base-ne-USED.false c.if-state-base.false c.loop-k.invariant c.loop-k-test.false
 
 pub returns : goal.returns
 returns c = search (walk_ends, rules)

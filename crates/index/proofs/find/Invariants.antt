@@ -1,9 +1,15 @@
-use Prim.Native.Nat.{◌-◌}
+use Prim.Native.Nat.{◌+◌, ◌*◌}
+use Rattle.index.proofs.Agree.{Agrees}
 use Rattle.index.proofs.Walk.{Walked}
 use Rattle.index.proofs.find.Given as goal
 
-abbrev pub invariant-loop-place : goal.invariant-loop-place
-invariant-loop-place l = Walked l.index l.state l.key l.hash l.place
+-- no slot so far that the index offers has the key
+abbrev pub invariant-slots : goal.invariant-slots
+invariant-slots l = Walked l.index l.state l.key l.hash l.place
 
-abbrev pub decreases-loop-place : goal.decreases-loop-place
-decreases-loop-place l = 16384 - l.place
+-- the key's bytes so far are this slot's
+abbrev pub invariant-loop-word : goal.invariant-loop-word
+invariant-loop-word l = Agrees l.state (l.base + 2) l.key 0 (8 * l.word)
+
+abbrev pub invariant-loop-k : goal.invariant-loop-k
+invariant-loop-k l = Agrees l.state (l.base + 2) l.key 0 l.k

@@ -1,13 +1,8 @@
 -- `index::insert` meets its contract. Assumes nothing.
-use Rattle.index.proofs.Look.{look_begins, look_goes_on, look_ends}
-use borrow.Author.Rules.{rules}
+use Rattle.index.proofs.Look.{look_goes_on}
 use Rattle.index.proofs.insert.Goals as goal
 
-pub loop-place-init : goal.loop-place-init
-loop-place-init c = search (look_begins, rules)
-
 pub loop-place-preserved : goal.loop-place-preserved
-loop-place-preserved c = search (look_goes_on, rules)
-
-pub returns : goal.returns
-returns c = search (look_ends, rules)
+loop-place-preserved c =
+    let same = c.loop-place.invariant.0 in
+    (same, look_goes_on c.requires.index_len c.requires.index_bound c.loop-place.invariant.1 (rw same at c.if-index-place-eq0.false))

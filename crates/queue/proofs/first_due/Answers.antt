@@ -1,8 +1,7 @@
 -- `queue::first_due` meets its contract. Assumes nothing.
 use native.Mathlib.Omega.{arith}
-use Prim.Native.Nat.{◌+◌, ◌*◌, ◌-◌, ◌≤◌, ◌<◌}
-use Rattle.queue.specs.Turns.{turns, descends}
-use Rattle.queue.proofs.Laws.{walk_right, walk_ends, root_least}
+use Prim.Native.Nat.{◌+◌}
+use Rattle.queue.proofs.Laws.{walk_ends, root_least}
 use borrow.Author.Rules.{rules}
 use Rattle.queue.proofs.first_due.Goals as goal
 
@@ -10,19 +9,6 @@ pub returns-then-limit-least : goal.returns-then-limit-least
 returns-then-limit-least c =
     let a = c.args in
     λ j h. omega (arith, root_least a.tree.now a.capacity c.requires.sound (a.capacity + j) (omega arith) (omega arith))
-
-pub loop-k-smaller-then-left-least : goal.loop-k-smaller-then-left-least
-loop-k-smaller-then-left-least c = descends _ _ _ (search rules) (search rules) (omega arith) (search rules)
-
-pub loop-k-smaller : goal.loop-k-smaller
-loop-k-smaller c = descends _ _ _ (search rules) (search rules) (omega arith) (search rules)
-
-pub loop-k-preserved : goal.loop-k-preserved
-loop-k-preserved c = (
-  search rules,
-  search rules,
-  walk_right _ _ _ _ _ c.requires.sound c.loop-k.invariant.0 (search rules) c.loop-k.invariant.2 c.load_node-left.ensures c.if-left-least.false,
-)
 
 pub returns : goal.returns
 returns c =

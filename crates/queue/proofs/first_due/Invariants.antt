@@ -1,7 +1,7 @@
 use mathlib.Core.Path.{◌≡◌}
-use Prim.Native.Nat.{◌+◌, ◌*◌, ◌-◌, ◌≤◌, ◌<◌}
+use Prim.Native.Nat.{◌*◌, ◌-◌, ◌≤◌, ◌<◌}
 use Rattle.queue.specs.Tree.{node}
-use Rattle.queue.specs.Turns.{turns, descends}
+use Rattle.queue.specs.Turns.{turns}
 use Rattle.queue.proofs.first_due.Given as goal
 
 abbrev pub invariant-loop-k : goal.invariant-loop-k

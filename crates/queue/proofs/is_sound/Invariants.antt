@@ -1,9 +1,6 @@
-use Prim.Native.Nat.{ℕ, ◌-◌, ◌≤◌, ◌<◌}
+use Prim.Native.Nat.{ℕ, ◌≤◌, ◌<◌}
 use Rattle.queue.specs.Tree.{Lesser}
 use Rattle.queue.proofs.is_sound.Given as goal
 
 abbrev pub invariant-loop-k : goal.invariant-loop-k
-invariant-loop-k l = (1 ≤ l.k) × ((j : ℕ) → 1 ≤ j → j < l.k → Lesser l.tree j)
-
-abbrev pub decreases-loop-k : goal.decreases-loop-k
-decreases-loop-k l = l.capacity - l.k
+invariant-loop-k l = (j : ℕ) → 1 ≤ j → j < l.k → Lesser l.tree j

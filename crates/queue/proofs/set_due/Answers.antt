@@ -1,15 +1,7 @@
 -- `queue::set_due` meets its contract. Assumes nothing.
 use borrow.Author.Rules.{rules}
-use Rattle.queue.specs.Turns.{turns, climbs}
-use Rattle.queue.proofs.Laws.{Climb, climb_begins, climb_goes_on, climb_ends}
+use Rattle.queue.proofs.Laws.{climb_goes_on, climb_ends}
 use Rattle.queue.proofs.set_due.Goals as goal
-
-pub loop-k-init : goal.loop-k-init
-loop-k-init c =
-    climb_begins _ _ _ _ _ (search rules) c.requires.sound c.store_node.ensures
-
-pub loop-k-smaller : goal.loop-k-smaller
-loop-k-smaller c = search (climbs, rules)
 
 pub loop-k-preserved : goal.loop-k-preserved
 loop-k-preserved c =

@@ -1,5 +1,5 @@
-use Rattle.queue.specs.Turns.{turns, climbs}
-use Rattle.queue.proofs.Laws.{Climb, climb_begins, climb_goes_on, climb_ends}
+use Rattle.queue.specs.Turns.{turns}
+use Rattle.queue.proofs.Laws.{Climb}
 use Rattle.queue.proofs.set_due.Given as goal
 
 abbrev pub invariant-loop-k : goal.invariant-loop-k

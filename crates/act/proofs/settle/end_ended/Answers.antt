@@ -9,8 +9,8 @@ put_due-requires c = record { capacity_in_bounds = search rules; i_lt_capacity =
 pub hand_one-requires : goal.hand_one-requires
 hand_one-requires c = search (one_asked, rules)
 
-pub returns-in-At : goal.returns-in-At
-returns-in-At c = record { acted = search (end_acted, rules); filled = search (end_filled, rules) }
+pub returns-in-Some : goal.returns-in-Some
+returns-in-Some c = record { acted = search (end_acted, rules); filled = search (end_filled, rules) }
 
-pub returns-in-Nothing : goal.returns-in-Nothing
-returns-in-Nothing c = record { acted = search (none_acted, rules); filled = search (none_filled, rules) }
+pub returns-in-None : goal.returns-in-None
+returns-in-None c = record { acted = search (none_acted, rules); filled = search (none_filled, rules) }

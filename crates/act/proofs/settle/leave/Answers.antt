@@ -9,8 +9,8 @@ put_due-requires c = record { capacity_in_bounds = search rules; i_lt_capacity =
 pub close_slot-requires : goal.close_slot-requires
 close_slot-requires c = search (leave_asked, rules)
 
-pub returns-in-At : goal.returns-in-At
-returns-in-At c = search (leave_acted, rules)
+pub returns-in-Some : goal.returns-in-Some
+returns-in-Some c = search (leave_acted, rules)
 
-pub returns-in-Nothing : goal.returns-in-Nothing
-returns-in-Nothing c = search (stay_acted, rules)
+pub returns-in-None : goal.returns-in-None
+returns-in-None c = search (stay_acted, rules)

@@ -12,16 +12,16 @@ write_flow-n-requires c = search (flow_fits, rules)
 pub leave-requires : goal.leave-requires
 leave-requires c = search (leaves_asked, rules)
 
-pub returns-in-Absent : goal.returns-in-Absent
-returns-in-Absent c = record { acted = search (settled_kept, rules); filled = search (kept_filled, rules) }
+pub returns-in-None : goal.returns-in-None
+returns-in-None c = record { acted = search (settled_kept, rules); filled = search (kept_filled, rules) }
 
 pub shape_of-out : goal.shape_of-out
 shape_of-out c = search rules
 
 -- what was asked, and why the flow ends, lie too far back for a search
 
-pub returns-in-Present : goal.returns-in-Present
-returns-in-Present c =
+pub returns-in-Some : goal.returns-in-Some
+returns-in-Some c =
     let asked = c.requires in
-    let ends = c.in-Present.is in
+    let ends = c.in-Some.is in
     record { acted = search (settled_left, rules); filled = search (left_filled, rules) }

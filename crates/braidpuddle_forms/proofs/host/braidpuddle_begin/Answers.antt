@@ -1,5 +1,5 @@
 -- `braidpuddle_forms::host::braidpuddle_begin` meets its contract. Assumes nothing.
-use Rattle.braidpuddle_forms.proofs.HostAnswers.{begin_fits, begin_unfit, begin_record, begin_packet, protocol_fits}
+use Rattle.braidpuddle_forms.proofs.HostAnswers.{begin_fits, begin_unfit, begin_record, begin_refused, protocol_fits}
 use borrow.Author.Rules.{rules}
 use Rattle.braidpuddle_forms.proofs.host.braidpuddle_begin.Goals as goal
 
@@ -9,11 +9,11 @@ facts_from-facts-requires c = search (begin_fits, rules)
 pub overflow_cast-protocol : goal.overflow_cast-protocol
 overflow_cast-protocol c = search (protocol_fits, rules)
 
-pub returns-in-Record : goal.returns-in-Record
-returns-in-Record c = search (begin_record, rules)
+pub returns-in-Ok : goal.returns-in-Ok
+returns-in-Ok c = search (begin_record, rules)
 
-pub returns-in-Packet : goal.returns-in-Packet
-returns-in-Packet c = search (begin_packet, rules)
+pub returns-in-Err : goal.returns-in-Err
+returns-in-Err c = search (begin_refused, rules)
 
 pub returns : goal.returns
 returns c = search (begin_unfit, rules)

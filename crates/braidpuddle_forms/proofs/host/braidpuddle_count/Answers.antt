@@ -1,6 +1,6 @@
 -- `braidpuddle_forms::host::braidpuddle_count` meets its contract. Assumes nothing.
 use Rattle.braidpuddle_forms.specs.FactLaws.{facts_judged}
-use Rattle.braidpuddle_forms.proofs.HostAnswers.{words_judged, count_unfit, count_packet, count_damaged, counted, refused_damaged, refused_packet, refused_spent}
+use Rattle.braidpuddle_forms.proofs.HostAnswers.{words_judged, count_unfit, count_packet, count_damaged, counted, count_refused}
 use borrow.Author.Rules.{rules}
 use Rattle.braidpuddle_forms.proofs.host.braidpuddle_count.Goals as goal
 
@@ -10,17 +10,11 @@ record_of-before-requires c = search (words_judged, rules)
 pub facts_from-facts-requires : goal.facts_from-facts-requires
 facts_from-facts-requires c = search (facts_judged, rules)
 
-pub returns-in-None : goal.returns-in-None
-returns-in-None c = search (counted, rules)
+pub returns-in-Ok : goal.returns-in-Ok
+returns-in-Ok c = search (counted, rules)
 
-pub returns-in-Damaged : goal.returns-in-Damaged
-returns-in-Damaged c = search (refused_damaged, rules)
-
-pub returns-in-Packet : goal.returns-in-Packet
-returns-in-Packet c = search (refused_packet, rules)
-
-pub returns-in-Spent : goal.returns-in-Spent
-returns-in-Spent c = search (refused_spent, rules)
+pub returns-in-Err : goal.returns-in-Err
+returns-in-Err c = search (count_refused, rules)
 
 pub returns-then-sound_aside : goal.returns-then-sound_aside
 returns-then-sound_aside c = search (count_packet, rules)

@@ -1,13 +1,9 @@
--- `braidpuddle_forms::keys::braidpuddle_forget_link_addresses` meets its contract. Assumes nothing.
-use Rattle.braidpuddle_forms.proofs.KeyAnswers.{made_none, made_bytes, made_room}
+use Rattle.braidpuddle_forms.proofs.KeyAnswers.{made_none, made_reported}
 use borrow.Author.Rules.{rules}
 use Rattle.braidpuddle_forms.proofs.keys.braidpuddle_forget_link_addresses.Goals as goal
 
 pub returns-in_default : goal.returns-in_default
 returns-in_default c = search (made_none, rules)
 
-pub returns-in-Bytes : goal.returns-in-Bytes
-returns-in-Bytes c = search (made_bytes, rules)
-
-pub returns-in-Room : goal.returns-in-Room
-returns-in-Room c = search (made_room, rules)
+pub returns : goal.returns
+returns c = search (made_reported, rules)

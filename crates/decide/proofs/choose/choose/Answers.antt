@@ -15,4 +15,4 @@ pub choice_of-requires : goal.choice_of-requires
 choice_of-requires c = let size = c.requires.size in record { in_state = sits_in _ _ _ _ _ _ size c.find_staying-own.ensures.sits; in_state_2 = sits_in _ _ _ _ _ _ size (turned_sits _ _ _ _ _ _ _ _ c.turned_if-turned.ensures) }
 
 pub returns : goal.returns
-returns c = choice_told _ _ _ _ _ _ _ _ c.requires _ _ _ _ _ c.has_syn-syn.ensures c.has_reverse_direction-two_way.ensures c.find_staying-own.ensures c.is_found.ensures c.turned_if-turned.ensures _ c.choice_of.ensures
+returns c = choice_told _ _ _ _ _ _ _ _ c.requires _ _ _ _ _ c.has_syn-syn.ensures c.has_reverse_direction-two_way.ensures c.find_staying-own.ensures c.is_some.ensures c.turned_if-turned.ensures _ c.choice_of.ensures

@@ -6,8 +6,8 @@ use Rattle.decide.proofs.decide.record_before.Goals as goal
 pub record_at-requires : goal.record_at-requires
 record_at-requires c = has_record _ _ (c.requires _ (search rules))
 
-pub returns-in-At : goal.returns-in-At
-returns-in-At c = search (before_slot, rules)
+pub returns-in-Some : goal.returns-in-Some
+returns-in-Some c = search (before_slot, rules)
 
-pub returns-in-Nothing : goal.returns-in-Nothing
-returns-in-Nothing c = search (before_new, rules)
+pub returns-in-None : goal.returns-in-None
+returns-in-None c = search (before_new, rules)

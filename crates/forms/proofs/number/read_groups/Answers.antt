@@ -3,7 +3,7 @@ use Prim.Native.Nat.{◌-◌}
 use native.Mathlib.Omega.{arith}
 use borrow.Author.Rules.{rules}
 use Rattle.forms.specs.Number.{number_reads}
-use Rattle.forms.specs.Loop.{Reading, reading_start, reading_end, reading_room, reading_low, reading_high, reading_last, reading_next}
+use Rattle.forms.specs.Loop.{reading_start, reading_end, reading_room, reading_low, reading_high, reading_last, reading_next}
 use Rattle.forms.proofs.number.read_groups.Goals as goal
 
 pub loop-i-init : goal.loop-i-init

@@ -1,6 +1,6 @@
 use Prim.Native.Nat.{◌-◌}
 use lib.ListN.{length}
-use Rattle.forms.specs.Loop.{Reading, reading_start, reading_end, reading_room, reading_low, reading_high, reading_last, reading_next}
+use Rattle.forms.specs.Loop.{Reading}
 use Rattle.forms.proofs.number.read_groups.Given as goal
 
 abbrev pub invariant-loop-i : goal.invariant-loop-i

@@ -1,4 +1,3 @@
--- `forms::number::read_u64` meets its contract. Assumes nothing.
 use Rattle.forms.specs.Nine.{is_nine_lem}
 use borrow.Author.Rules.{rules}
 use Rattle.forms.proofs.number.read_u64.Goals as goal

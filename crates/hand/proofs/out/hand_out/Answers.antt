@@ -4,11 +4,8 @@ use Rattle.hand.proofs.Hand.{hand_begins, hand_room, one_asked, hand_goes, hand_
 use borrow.Author.Rules.{rules}
 use Rattle.hand.proofs.out.hand_out.Goals as goal
 
-pub loop-k-init : goal.loop-k-init
-loop-k-init c = search (hand_begins, rules)
-
-pub overflow_cast-i : goal.overflow_cast-i
-overflow_cast-i c = omega (arith, c.shared_slice_known-in-loop-k-1.given c.loop-k.k)
+pub loop-slot-init : goal.loop-slot-init
+loop-slot-init c = search (hand_begins, rules)
 
 pub hand_one-used-requires : goal.hand_one-used-requires
 hand_one-used-requires c = search (one_asked, rules)
@@ -16,14 +13,14 @@ hand_one-used-requires c = search (one_asked, rules)
 pub overflow_add-used : goal.overflow_add-used
 overflow_add-used c =
     let a = c.args in
-    let here = c.loop-k in
+    let here = c.loop-slot in
     let room =
     hand_room a.capacity a.other a.state.now a.leaving.now a.n a.index.now a.free.now a.out.now c.requires
-    here.state here.index here.free here.out here.used here.k here.invariant c.loop-k-test.true in
+    here.state here.index here.free here.out here.used here.slot-index here.invariant c.loop-slot-test.true in
     omega (arith, room, c.hand_one-used.ensures.wrote.bytes)
 
-pub loop-k-preserved : goal.loop-k-preserved
-loop-k-preserved c = search (hand_goes, rules)
+pub loop-slot-preserved : goal.loop-slot-preserved
+loop-slot-preserved c = search (hand_goes, rules)
 
 pub returns : goal.returns
 returns c = search (hand_ends, rules)

@@ -43,4 +43,4 @@ overflow_add-result-3 c =
 pub returns : goal.returns
 returns c =
     performed _ _ _ _ _ _ _ _ _ _ _ _ c.requires _ _ _ _ _ c.hand_leaving-first.ensures _ _ _ _ _ c.settle_clocked-rest.ensures.stepped
-    c.settle_clocked-rest.ensures.filled _ _ _ c.is_found.ensures c.freed_by.ensures c.ending_count.ensures
+    c.settle_clocked-rest.ensures.filled _ _ _ c.is_some.ensures c.freed_by.ensures c.ending_count.ensures

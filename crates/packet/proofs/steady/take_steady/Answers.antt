@@ -24,7 +24,7 @@ returns-in_default c =
 pub count_at-requires : goal.count_at-requires
 count_at-requires c =
     steady_counts _ _ _ _ _ _ _ _ c.requires _ _ _ _ _ _ _ c.choose_plain-choice.ensures _ c.stays_open.ensures _
-    c.in-At.is
+    c.in-Some.is
 
 pub store_clock-requires : goal.store_clock-requires
 store_clock-requires c =
@@ -33,5 +33,5 @@ store_clock-requires c =
 pub returns : goal.returns
 returns c =
     counted_steady _ _ _ _ _ _ c.load_header-header.ensures _ c.clock_at-clock.ensures _ c.nothing_due.ensures _ _ _
-    c.choose_plain-choice.ensures _ c.stays_open.ensures _ c.in-At.is c.if-not-nothing_due.false c.requires.in_range
+    c.choose_plain-choice.ensures _ c.stays_open.ensures _ c.in-Some.is c.if-not-nothing_due.false c.requires.in_range
     (search (c.clock_at-clock.type_inv, rules)) _ _ c.count_at.ensures c.store_clock.ensures

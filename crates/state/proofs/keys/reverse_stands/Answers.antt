@@ -9,4 +9,4 @@ pub find-requires : goal.find-requires
 find-requires c = let r = reversed_asked _ _ _ _ _ c.requires _ _ _ c.write_reversed-n.ensures _ c.front.ensures in record { capacity_in_bounds = r.0; indexed = r.1; no_key_twice = r.2; hash_value = r.3 }
 
 pub returns : goal.returns
-returns c = reversed_told _ _ _ _ _ c.requires _ _ _ c.write_reversed-n.ensures _ c.front.ensures _ _ c.find.ensures c.is_found.ensures
+returns c = reversed_told _ _ _ _ _ c.requires _ _ _ c.write_reversed-n.ensures _ c.front.ensures _ _ c.find.ensures c.is_some.ensures

@@ -1,16 +1,11 @@
--- `state::slot::whole_key` meets its contract. Assumes nothing.
-use Rattle.state.specs.SlotTest.{whole_read, part_read, packet_read_lem, short_read}
-use borrow.Author.Rules.{rules}
+use Rattle.state.specs.SlotTest.{whole_read, part_read, refused_read}
 use Rattle.state.proofs.slot.whole_key.Goals as goal
 
+pub returns-in_default : goal.returns-in_default
+returns-in_default c = refused_read _ _ c.read_key.ensures _ c.in_default.is
+
 pub returns-then-used-bytes : goal.returns-then-used-bytes
-returns-then-used-bytes c = search (whole_read, rules)
+returns-then-used-bytes c = whole_read _ _ c.read_key.ensures _ _ c.in-Ok.is c.if-used-bytes.true
 
 pub returns-else-used-bytes : goal.returns-else-used-bytes
-returns-else-used-bytes c = search (part_read, rules)
-
-pub returns-in-Packet : goal.returns-in-Packet
-returns-in-Packet c = search (packet_read_lem, rules)
-
-pub returns-in-Short : goal.returns-in-Short
-returns-in-Short c = search (short_read, rules)
+returns-else-used-bytes c = part_read _ _ c.read_key.ensures _ _ c.in-Ok.is c.if-used-bytes.false

@@ -1,8 +1,8 @@
-use Rattle.forms.specs.declared.optional.OptU8.{OptU8}
+use Rattle.std.specs.Prelude.{None, Option, Some}
 use Rattle.words.specs.FieldLaws.{present_at}
 -- `words::fields::opt_u8_at` meets its contract. Assumes nothing.
 use borrow.Author.Rules.{rules}
 use Rattle.words.proofs.fields.opt_u8_at.Goals as goal
 
 pub returns : goal.returns
-returns c = search (present_at OptU8.Absent OptU8.Present, rules)
+returns c = search (present_at None Some, rules)

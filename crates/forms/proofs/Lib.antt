@@ -1,0 +1,4 @@
+pub mod Found
+pub mod RawLaws
+pub mod Writing
+pub mod Written

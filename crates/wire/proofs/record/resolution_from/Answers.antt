@@ -1,7 +1,0 @@
--- `wire::record::resolution_from` meets its contract. Assumes nothing.
-use Rattle.wire.specs.RecordRead.{last_resolution}
-use borrow.Author.Rules.{rules}
-use Rattle.wire.proofs.record.resolution_from.Goals as goal
-
-pub returns-in_default : goal.returns-in_default
-returns-in_default c = search (last_resolution, rules)
