@@ -15,4 +15,11 @@ for part in braidpuddle_c braidpuddle_forms_c; do
     ar p "crates/$part/out/lib$part.a" "$part.o" >"build/lib/objects/$part.o"
 done
 ar rcs build/lib/libbraidpuddle.a build/lib/objects/*.o
+
+# README.md and the header promise that it needs memcpy and memset alone.
+needs=$(nm -u build/lib/libbraidpuddle.a | awk '$1 == "U" && $2 != "memcpy" && $2 != "memset" { print $2 }')
+if [ -n "$needs" ]; then
+    echo "library: it needs more from outside than memcpy and memset:" $needs
+    exit 1
+fi
 echo "made build/lib/libbraidpuddle.a"

@@ -1,7 +1,6 @@
 //! Damage to the words of slot 0's two directions, each by itself.
 use crate::places::{FIRST_RECORD, Memory, WORD, put_words};
 use crate::tally::Tally;
-use std::io;
 
 // A direction of slot 0: where its words begin in the record, and how many packets it has.
 #[derive(Debug, Clone, Copy)]
@@ -51,25 +50,23 @@ const FLAGS: [&str; 9] = [
     "ns count above packets",
 ];
 
-pub fn damage(rt: &impl Print, state: &Memory, tally: &mut Tally) -> io::Result<()> {
+pub fn damage(rt: &impl Print, state: &Memory, tally: &mut Tally) {
     for direction in DIRECTIONS {
-        direction.damage(rt, state, tally)?;
+        direction.damage(rt, state, tally);
     }
-    Ok(())
 }
 
 impl Direction {
-    fn damage(&self, rt: &impl Print, state: &Memory, tally: &mut Tally) -> io::Result<()> {
+    fn damage(&self, rt: &impl Print, state: &Memory, tally: &mut Tally) {
         for (name, word, words) in CHANGES {
-            self.judge(rt, state, tally, name, word, words)?;
+            self.judge(rt, state, tally, name, word, words);
         }
         let most = u64::from(self.packets);
         let name = "fin count as packets";
-        self.judge(rt, state, tally, name, FIRST_FLAG, &[most])?;
+        self.judge(rt, state, tally, name, FIRST_FLAG, &[most]);
         for (name, word) in FLAGS.into_iter().zip(FIRST_FLAG..=12) {
-            self.judge(rt, state, tally, name, word, &[most + 1])?;
+            self.judge(rt, state, tally, name, word, &[most + 1]);
         }
-        Ok(())
     }
 
     fn judge(
@@ -80,11 +77,11 @@ impl Direction {
         name: &str,
         word: u8,
         words: &[u64],
-    ) -> io::Result<()> {
+    ) {
         let word = usize::from(self.first_word) + usize::from(word);
         let mut copy = *state;
         put_words(&mut copy, FIRST_RECORD + word * WORD, words);
-        let direction = self.name;
-        tally.judge(rt, format_args!("{direction} {name}"), &copy)
+        let _ = rt.print(self.name);
+        tally.judge(rt, format_args!(" {name}"), &copy);
     }
 }

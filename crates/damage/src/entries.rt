@@ -4,10 +4,9 @@ use crate::damage::Damage;
 use crate::flows::{FIRST_DUE, NEVER, SECOND_DUE};
 use crate::places::{Memory, QUEUE, STATE_BYTES, TIMEOUT, WORD};
 use crate::tally::Tally;
-use std::io;
 
-pub fn damage(rt: &impl Print, state: &Memory, tally: &mut Tally) -> io::Result<()> {
-    tally.judge_each(rt, state, &DAMAGES)
+pub fn damage(rt: &impl Print, state: &Memory, tally: &mut Tally) {
+    tally.judge_each(rt, state, &DAMAGES);
 }
 
 const DAMAGES: [Damage; 11] = [

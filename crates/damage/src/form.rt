@@ -3,10 +3,9 @@ use crate::damage::Change::Byte;
 use crate::damage::Damage;
 use crate::places::{FIRST_FORM, FIRST_LENGTH, Memory};
 use crate::tally::Tally;
-use std::io;
 
-pub fn damage(rt: &impl Print, state: &Memory, tally: &mut Tally) -> io::Result<()> {
-    tally.judge_each(rt, state, &DAMAGES)
+pub fn damage(rt: &impl Print, state: &Memory, tally: &mut Tally) {
+    tally.judge_each(rt, state, &DAMAGES);
 }
 
 const DAMAGES: [Damage; 18] = [

@@ -7,14 +7,13 @@ use crate::places::{
 };
 use crate::tally::Tally;
 use listing::fields::part;
-use std::io;
 
-pub fn damage(rt: &impl Print, state: &Memory, tally: &mut Tally) -> io::Result<()> {
-    tally.judge_each(rt, state, &SIZES)?;
+pub fn damage(rt: &impl Print, state: &Memory, tally: &mut Tally) {
+    tally.judge_each(rt, state, &SIZES);
     for (name, length) in LENGTHS {
-        tally.judge(rt, name, part(state, 0, length))?;
+        tally.judge(rt, name, part(state, 0, length));
     }
-    tally.judge_each(rt, state, &TIMES)
+    tally.judge_each(rt, state, &TIMES);
 }
 
 const SECOND: u64 = 1_000_000_000;

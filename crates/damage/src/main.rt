@@ -34,7 +34,7 @@ fn main(rt: HostRuntime) -> ExitCode {
     }
 }
 
-// An error says that a line cannot be written.
+// An error says that the last line cannot be written.
 fn run(rt: &impl Print) -> io::Result<()> {
     let mut memory = [165u8; MEMORY_BYTES];
     let opening = open(
@@ -55,15 +55,15 @@ fn run(rt: &impl Print) -> io::Result<()> {
 
 // All damages, kind by kind.
 fn damage_all(rt: &impl Print, state: &Memory) -> io::Result<()> {
-    show(rt, "as it stands", state)?;
+    show(rt, "as it stands", state);
     let mut tally = Tally::default();
-    header::damage(rt, state, &mut tally)?;
-    slot::damage(rt, state, &mut tally)?;
-    form::damage(rt, state, &mut tally)?;
-    record::damage(rt, state, &mut tally)?;
-    direction::damage(rt, state, &mut tally)?;
-    together::damage(rt, state, &mut tally)?;
-    pairs::damage(rt, state, &mut tally)?;
-    entries::damage(rt, state, &mut tally)?;
-    rt.println(tally)
+    header::damage(rt, state, &mut tally);
+    slot::damage(rt, state, &mut tally);
+    form::damage(rt, state, &mut tally);
+    record::damage(rt, state, &mut tally);
+    direction::damage(rt, state, &mut tally);
+    together::damage(rt, state, &mut tally);
+    pairs::damage(rt, state, &mut tally);
+    entries::damage(rt, state, &mut tally);
+    tally.print(rt)
 }

@@ -3,10 +3,9 @@ use crate::damage::Change::{Byte, Words};
 use crate::damage::Damage;
 use crate::places::{FIRST, FREE, Memory};
 use crate::tally::Tally;
-use std::io;
 
-pub fn damage(rt: &impl Print, state: &Memory, tally: &mut Tally) -> io::Result<()> {
-    tally.judge_each(rt, state, &DAMAGES)
+pub fn damage(rt: &impl Print, state: &Memory, tally: &mut Tally) {
+    tally.judge_each(rt, state, &DAMAGES);
 }
 
 const DAMAGES: [Damage; 6] = [

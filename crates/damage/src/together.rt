@@ -3,10 +3,9 @@ use crate::damage::Change::Words;
 use crate::damage::Damage;
 use crate::places::{FIRST_RECORD, Memory, SECOND_RECORD, WORD};
 use crate::tally::Tally;
-use std::io;
 
-pub fn damage(rt: &impl Print, state: &Memory, tally: &mut Tally) -> io::Result<()> {
-    tally.judge_each(rt, state, &DAMAGES)
+pub fn damage(rt: &impl Print, state: &Memory, tally: &mut Tally) {
+    tally.judge_each(rt, state, &DAMAGES);
 }
 
 // The direction of slot 2 that has packets.

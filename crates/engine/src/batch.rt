@@ -129,7 +129,7 @@ fn feed_one(
                 out,
             )
         }
-        Err(stop) => unread(stop, at),
+        Err(why) => unread(why, at),
     }
 }
 

@@ -1,5 +1,5 @@
 -- What one packet changes of a record and what it keeps, with the counting itself left shut. Assumes nothing.
-use Rattle.std.specs.Prelude.{ℕ, zero, suc, min, max, ◌+◌, ◌%◌, ◌<◌, ◌≡◌, refl, ◌↔◌, ◌⊎◌, Option, Some}
+use Rattle.std.specs.Prelude.{ℕ, zero, suc, min, max, ◌+◌, ◌%◌, ◌<◌, ◌≡◌, refl, ◌↔◌, ◌⊎◌, Some}
 use Rattle.std.proofs.Common.{inl, inr, ⊎_elim, arith}
 use Rattle.stats.specs.declared.counts.TcpFlagCounts.{TcpFlagCounts}
 use Rattle.stats.specs.declared.counts.DirectionStats.{DirectionStats}

@@ -1,5 +1,5 @@
 -- Document 01's P10, of the plain rules: ACK opens at 500; a SYN at 500 gives SynObserved, at 501 MidStream. Assumes nothing.
-use Rattle.std.specs.Prelude.{ℕ, ◌≡◌, refl, [], ◌∷◌, None, Option, Some}
+use Rattle.std.specs.Prelude.{ℕ, ◌≡◌, refl, [], ◌∷◌, None, Some}
 use Rattle.flow.specs.declared.time.TimeResolution.{TimeResolution}
 use Rattle.flow.specs.declared.time.StartState.{StartState}
 use Rattle.flow.specs.declared.record.Direction.{Direction}

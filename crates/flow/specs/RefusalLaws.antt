@@ -1,5 +1,5 @@
 -- The refusals of a packet on a host's own record: exactly when each is given, and what it leaves. Assumes nothing.
-use Rattle.std.specs.Prelude.{ℕ, ◌+◌, ◌^◌, ◌<◌, ◌≤◌, ◌≡◌, refl, Bool, true, false, cond, ◌&&◌, ◌↔◌, ◌⊎◌, Option, None, Some, Result, Ok, Err}
+use Rattle.std.specs.Prelude.{ℕ, ◌+◌, ◌^◌, ◌<◌, ◌≤◌, ◌≡◌, refl, Bool, true, false, cond, ◌&&◌, ◌↔◌, ◌⊎◌, Option, None, Some, Ok, Err}
 use Rattle.std.proofs.Common.{ap, ◌∙◌, inl, inr, ⊎_elim, arith, ltb-false}
 use Rattle.stats.specs.Counting.{FlagsUpTo}
 use Rattle.flow.specs.declared.record.FlowRecord.{FlowRecord}

@@ -1,6 +1,6 @@
-//! Whether counts can be added.
+//! Whether counts can be added, and milliseconds as nanoseconds.
 
-ghost use Rattle.std.specs.Prelude.{◌≡◌, ◌+◌, ◌^◌, nat_lt};
+ghost use Rattle.std.specs.Prelude.{◌≡◌, ◌+◌, ◌-◌, ◌*◌, ◌^◌, min, nat_lt};
 
 /// Whether a sum of two is a u64.
 pub fn fits_two(a: u64, b: u64) -> bool
@@ -17,4 +17,11 @@ pub fn fits_three(a: u64, b: u64, c: u64) -> bool
         Some(sum) => fits_two(sum, c),
         None => false,
     }
+}
+
+/// Milliseconds as nanoseconds, held at the largest u64.
+pub fn million_times(millis: u64) -> u64
+    ensures { result ≡ min (millis * 1000000) (2 ^ 64 - 1) }
+{
+    millis.saturating_mul(1_000_000)
 }

@@ -4,6 +4,8 @@ ghost use Rattle.std.specs.Prelude.{◌≡◌, ◌-◌};
 ghost use Rattle.flow.specs.Counting.{start_state_after, counted_time, opening_time};
 ghost use Rattle.flow.specs.Idle.{idle_of};
 
+use crate::sums::million_times;
+
 #[derive(Clone, Copy, Debug, PartialEq, Eq, PartialOrd, Ord)]
 pub struct Millis(pub u64);
 
@@ -27,7 +29,7 @@ impl Idle {
     pub fn from_timeout(timeout: Millis) -> Idle
         ensures { result ≡ idle_of timeout }
     {
-        let nanos = timeout.0.saturating_mul(1_000_000);
+        let nanos = million_times(timeout.0);
         Idle {
             timeout: Nanos(nanos),
             lateness: Nanos(Idle::MAX_LATENESS.min(nanos / 2)),

@@ -16,6 +16,7 @@ use listing::list::{List, Unanswered};
 use listing::runner::replay;
 use listing::tally::Tally;
 use std::alloc::Global;
+use std::io::ErrorKind;
 use std::process::ExitCode;
 
 // The list of packets, records and counting.
@@ -55,6 +56,12 @@ impl List for PacketsAndRecords {
 fn main(rt: HostRuntime) -> ExitCode {
     match replay::<PacketsAndRecords>(&rt, rt.alloc()) {
         Ok(()) => ExitCode::SUCCESS,
-        Err(_) => ExitCode::FAILURE,
+        Err(error) => {
+            // What cannot be written has no other place to be told of.
+            if error.kind() == ErrorKind::OutOfMemory {
+                let _ = eprintln!(rt; "folds: out of memory");
+            }
+            ExitCode::FAILURE
+        }
     }
 }

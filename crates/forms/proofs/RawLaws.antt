@@ -1,10 +1,10 @@
 -- Raw bytes at the front, and how they are written.
-use Rattle.std.specs.Prelude.{ℕ, suc, ◌-◌, ◌/◌, ◌%◌, ◌^◌, ◌≤◌, ◌<◌, ◌≡◌, refl, List, [], ◌∷◌, ◌++◌, length, get_or, take, drop}
+use Rattle.std.specs.Prelude.{ℕ, suc, ◌-◌, ◌/◌, ◌%◌, ◌^◌, ◌≤◌, ◌<◌, ◌≡◌, refl, List, Option, [], ◌∷◌, ◌++◌, length, get_or, take, drop}
 use Rattle.std.proofs.Common.{sym, ap, ◌∙◌, arith, take_all, lt-ltb, zero-add}
 use Rattle.std.proofs.Math.Nat.{div-div-eq-div-mul}
 use Rattle.std.specs.Int.{w16, w32, w64, to_be_bytes}
 use Rattle.forms.specs.Form.{got, stop, byte, byte_reads, byte_ends, raw, raw_writes, raw_one_writes}
-use Rattle.forms.specs.Put.{Writes}
+use Rattle.forms.specs.Put.{Put, Writes}
 use Rattle.forms.specs.Raw.{RawAt, raw_short}
 use Rattle.forms.specs.declared.stop.Stop.{Stop}
 use Rattle.forms.proofs.Found.{front_got, front_stop}
@@ -73,3 +73,14 @@ module _ {at end v : ℕ} {l old new : List ℕ} where
 
   pub eight_bytes : l ≡ to_be_bytes w64 v → v < 2 ^ 64 → Writes at l old new end → Writes at ((raw 8).write v) old new end
   eight_bytes e h w = rw (eight v h) (rw e at w)
+
+-- the same at a place that may be full
+module _ {v : ℕ} {place end : Option ℕ} {l old new : List ℕ} where
+  pub two_put : l ≡ to_be_bytes w16 v → v < 2 ^ 16 → Put old place l new end → Put old place ((raw 2).write v) new end
+  two_put e h p = rw (two v h) (rw e at p)
+
+  pub four_put : l ≡ to_be_bytes w32 v → v < 2 ^ 32 → Put old place l new end → Put old place ((raw 4).write v) new end
+  four_put e h p = rw (four v h) (rw e at p)
+
+  pub eight_put : l ≡ to_be_bytes w64 v → v < 2 ^ 64 → Put old place l new end → Put old place ((raw 8).write v) new end
+  eight_put e h p = rw (eight v h) (rw e at p)

@@ -2,7 +2,7 @@
 use Rattle.std.specs.Prelude.{ℕ, suc, Some, None, true, leb, ◌+◌, ◌-◌, ◌≤◌, ◌<◌, ◌≡◌, refl, List, [], ◌∷◌, ◌++◌, length, take, drop, set}
 use Rattle.std.proofs.Common.{ap, sym, ◌∙◌, arith, append_assoc, le-leb, add-one, add-zero}
 use Rattle.std.proofs.lemmas.Bool.{lt-leb}
-use Rattle.std.proofs.lemmas.List.{take_at, take-append-le, take-append-drop, take_more_set, set_split, drop-set-lt, drop-drop, length-append, length-take-le, length-drop}
+use Rattle.std.proofs.lemmas.List.{take_at, take-append-drop, take_more_set, set_split, drop-set-lt, drop-drop, length-append, length-take-le, length-drop}
 use Rattle.std.proofs.lemmas.List.Edits.{sets, sets-eq}
 use Rattle.std.proofs.Math.Seq.{drop-append-add, length-sets}
 use Rattle.forms.specs.Number.{number_bytes}
@@ -64,22 +64,24 @@ wrote_whole {end} {bytes} {old} {new} other w =
 pub put_short : (at : ℕ) (bytes old new : List ℕ) → length old < at + length bytes → new ≡ stored old (Some at) bytes → Put old (Some at) bytes new None
 put_short at bytes old new h e = record { holds = e; next = rw (lt-leb (at + length bytes) (length old) h) refl }
 
--- what is stored of bytes that end past the end of the output, where the first `n` of them stand at the front of another buffer
-pub part_stored : {at n m : ℕ} {bytes zeros buffer old new : List ℕ} → Writes 0 bytes zeros buffer n → Writes at (take (length old - at) buffer) old new m → at < length old → length old < at + length bytes
+-- what is stored of bytes that end past the end of the output
+pub first_stored : (bytes : List ℕ) {at m : ℕ} {old new : List ℕ} → Writes at (take (length old - at) bytes) old new m → at < length old → length old < at + length bytes
     → new ≡ stored old (Some at) bytes
-unfolding written
-part_stored {at} {n} {m} {bytes} {zeros} {buffer} {old} {new} w v inside short =
+first_stored bytes {at} {m} {old} {new} v inside short =
     let room = length old - at in
     let few : room ≤ length bytes = omega arith in
-    let first : take room buffer ≡ take room bytes = rw w.stored (take-append-le room bytes (drop (0 + length bytes) zeros) few) in
     let count : length (take room bytes) ≡ room = length-take-le room bytes few in
     let size : at + length (take room bytes) ≡ length old = omega arith in
     let all : sets old at bytes ≡ sets (sets old at (take room bytes)) (at + length (take room bytes)) (drop room bytes) =
     ap (λ (l : List ℕ). sets old at l) (sym (take-append-drop room bytes)) ∙ sets_append old at (take room bytes) (drop room bytes) in
     (writes_put v).holds
-    ∙ ap (λ (l : List ℕ). sets old at l) first
     ∙ sym (sets_out (sets old at (take room bytes)) (at + length (take room bytes)) (drop room bytes) (omega (arith, length-sets old at (take room bytes))))
     ∙ sym all
+
+-- the bytes of a value, at the front of a buffer
+pub buffered : {n : ℕ} {bytes zeros buffer : List ℕ} → Writes 0 bytes zeros buffer n → take n buffer ≡ bytes
+unfolding written
+buffered {n} {bytes} {zeros} {buffer} w = rw w.stored (take_at bytes (drop (0 + length bytes) zeros) n (omega (arith, w.ends)))
 
 pub none_stored : (at : ℕ) (bytes old : List ℕ) → length old ≤ at → old ≡ stored old (Some at) bytes
 none_stored at bytes old h = sym (sets_out old at bytes h)

@@ -26,6 +26,11 @@ abbrev pub written_of : Result ℕ Refusal → Written
 written_of (Ok n) = wrote n
 written_of (Err why) = unwritten (refusal_number why)
 
+-- what is next behind a tag that stands for nothing
+abbrev pub refuse : {A : Type 0} → Result A Stop → Result A Stop
+refuse (Ok a) = Err Stop.Refused
+refuse (Err why) = Err why
+
 -- the ways out of write_lone_number
 module _ (out : List ℕ) (v most : ℕ) where
   pub lone_above : most < v → (written_of (Err Refusal.Packet), out) ≡ write_one 4 (leb v most) (number_bytes v) out

@@ -1,6 +1,6 @@
 -- Writing bytes one behind the other: each goes where the one before ended, and nothing more is stored once there is no room.
-use Rattle.std.specs.Prelude.{ℕ, suc, ◌+◌, ◌≤◌, ◌≡◌, refl, List, [], ◌∷◌, ◌++◌, Bool, true, false, cond, leb, length, set, take, drop, None, Option, Some}
-use Rattle.std.proofs.Common.{sym, ap, ◌∙◌, arith, zero-add, add_assoc, add-zero, leb-false, length-append}
+use Rattle.std.specs.Prelude.{ℕ, suc, ◌+◌, ◌≤◌, ◌<◌, ◌≡◌, refl, List, [], ◌∷◌, ◌++◌, Bool, true, false, cond, leb, length, set, take, drop, None, Option, Some}
+use Rattle.std.proofs.Common.{sym, ap, ◌∙◌, arith, zero-add, add_assoc, add-zero, leb-false, le-leb, length-append}
 use Rattle.std.proofs.lemmas.Bool.{lt-leb}
 use Rattle.std.proofs.lemmas.List.Edits.{sets, sets-eq}
 use Rattle.std.proofs.Math.Seq.{set_out, length-sets}
@@ -62,6 +62,14 @@ put_then {l} {m} {n} {p} {q} {r} {xs} {ys} a b =
 -- nothing grows
 pub put_length : {l m xs : List ℕ} {p r : Option ℕ} → Put l p xs m r → length m ≡ length l
 put_length {l} {m} {xs} {p} a = ap length a.holds ∙ stored_length l p xs
+
+-- a byte
+module _ (l : List ℕ) (place : Option ℕ) (b i : ℕ) (here : place ≡ Some i) where
+  pub byte_stored : i < length l → Put l place (b ∷ []) (set l i b) (Some (i + 1))
+  byte_stored h = record { holds = rw here; next = rw (here, le-leb (i + 1) (length l) (omega arith)) }
+
+  pub byte_full : length l ≤ i → Put l place (b ∷ []) l None
+  byte_full h = record { holds = rw (here, set_out l i b h); next = rw (here, lt-leb (i + 1) (length l) (omega arith)) }
 
 -- at the front, where there is room
 pub put_front : {l m bytes : List ℕ} {r : Option ℕ} → Put l (Some 0) bytes m r → length bytes ≤ length l → m ≡ bytes ++ drop (length bytes) l

@@ -1,11 +1,16 @@
--- Raw bytes: n of them read at once.
-use Rattle.std.specs.Prelude.{ℕ, zero, suc, ◌+◌, ◌*◌, ◌^◌, ◌<◌, ◌≤◌, ◌≡◌, refl, List, Bool, true, false, ltb, length, get_or}
-use Rattle.std.proofs.Common.{ap, arith, add-one, ltb-true, ltb-false}
-use Rattle.forms.specs.Form.{byte, raw}
+-- Raw bytes: n of them read at once, and written by halves.
+use Rattle.std.specs.Prelude.{ℕ, zero, suc, ◌+◌, ◌*◌, ◌/◌, ◌%◌, ◌^◌, ◌<◌, ◌≤◌, ◌≡◌, refl, List, [], ◌∷◌, ◌++◌, Bool, true, false, ltb, length, get_or, Option}
+use Rattle.std.proofs.Common.{sym, ap, ◌∙◌, append_assoc, append-nil, arith, add-one, pow-suc, mod-lt, add-zero, ltb-true, ltb-false}
+use Rattle.std.proofs.Math.Nat.{one-le-pow, div-div-eq-div-mul}
+use Rattle.std.proofs.Math.Arith.{mod-mul}
+use Rattle.forms.specs.Form.{byte, raw, raw_zero, raw_writes, raw_one_writes}
 use Rattle.forms.specs.At.{read_at, byte_at, byte_end}
 use Rattle.forms.specs.Field.{At, Short, Taken, raw_first, raw_taken, raw_below}
+use Rattle.forms.specs.Put.{Put, put_then}
 use Rattle.forms.specs.Form.{stop}
 use Rattle.forms.specs.declared.stop.Stop.{Stop}
+
+-- ---- reading
 
 -- r is the number that the n bytes from `at` on make
 pub record RawAt (s : List ℕ) (at n r : ℕ) : Type 0 where
@@ -60,3 +65,51 @@ module _ (s : List ℕ) (bytes : (k : ℕ) → k < length s → get_or s k 0 < 2
   pub raw_short : (n : ℕ) → 1 ≤ n → length s < at + n → stop Stop.Short ≡ read_at (raw n) s at
   raw_short zero o h = absurd (omega arith)
   raw_short (suc n) o h = (cut n h).1.reads
+
+-- ---- writing
+
+-- one more byte behind n of them, also behind none
+raw_behind : (n v : ℕ) → v < 256 ^ suc n → (raw (suc n)).write v ≡ (raw n).write (v / 256) ++ (v % 256 ∷ [])
+raw_behind zero v h =
+    let small : v % 256 ≡ v = omega arith in
+    raw_one_writes v ∙ rw (raw_zero, small)
+raw_behind (suc n) v h = raw_writes n v
+
+-- the first m of m + n bytes, and the n behind them
+pub raw_split : (n m v : ℕ) → 1 ≤ m → (raw (m + n)).write v ≡ (raw m).write (v / 256 ^ n) ++ (raw n).write (v % 256 ^ n)
+raw_split zero m v h =
+    let all : v / 1 ≡ v = omega arith in
+    rw (add-zero m, all, raw_zero) (sym (append-nil ((raw m).write v)))
+raw_split (suc n) zero v h = absurd (omega arith)
+raw_split (suc n) (suc m) v h =
+    let some : 0 < 256 ^ n = one-le-pow n 256 (omega arith) in
+    let power : 256 ^ suc n ≡ 256 ^ n * 256 = pow-suc 256 n in
+    let other : 256 ^ suc n ≡ 256 * 256 ^ n = omega arith in
+    let low : v % 256 ^ suc n ≡ (v / 256 % 256 ^ n) * 256 + v % 256 = rw power (mod-mul v some (omega arith)) in
+    let up : v / 256 / 256 ^ n ≡ v / 256 ^ suc n = div-div-eq-div-mul v 256 (256 ^ n) ∙ ap (λ (k : ℕ). v / k) (sym other) in
+    let below : v % 256 ^ suc n < 256 ^ suc n = mod-lt v (rw power (omega arith)) in
+    let less : suc (m + n) ≡ suc m + n = omega arith in
+    let whole : (raw (suc (m + n))).write (v / 256) ≡ (raw (suc m)).write (v / 256 / 256 ^ n) ++ (raw n).write (v / 256 % 256 ^ n) = rw less (raw_split n (suc m) (v / 256) h) in
+    let first : v % 256 ^ suc n / 256 ≡ v / 256 % 256 ^ n = omega arith in
+    let last : v % 256 ^ suc n % 256 ≡ v % 256 = omega arith in
+    let count : suc m + suc n ≡ suc (suc (m + n)) = omega arith in
+    rw count
+    (raw_writes (m + n) v
+    ∙ ap (λ (l : List ℕ). l ++ (v % 256 ∷ [])) (whole)
+    ∙ append_assoc ((raw (suc m)).write (v / 256 / 256 ^ n)) ((raw n).write (v / 256 % 256 ^ n)) (v % 256 ∷ [])
+    ∙ rw (up, ← first, ← last) (ap (λ (l : List ℕ). (raw (suc m)).write (v / 256 ^ suc n) ++ l) (sym (raw_behind n (v % 256 ^ suc n) below))))
+
+-- two bytes, and twice as many
+pub put_raw2 : {l m k : List ℕ} {p q r : Option ℕ} (v : ℕ) → Put l p (v / 256 ∷ []) m q → Put m q (v % 256 ∷ []) k r → Put l p ((raw 2).write v) k r
+put_raw2 v a b = rw (raw_writes 0 v, raw_one_writes) (put_then a b)
+
+put_twice : (n : ℕ) → 1 ≤ n → {l m k : List ℕ} {p q r : Option ℕ} (v : ℕ) → Put l p ((raw n).write (v / 256 ^ n)) m q → Put m q ((raw n).write (v % 256 ^ n)) k r
+    → Put l p ((raw (n + n)).write v) k r
+put_twice n h v a b = rw (raw_split n n v h) (put_then a b)
+
+module _ {l m k : List ℕ} {p q r : Option ℕ} (v : ℕ) where
+  pub put_raw4 : Put l p ((raw 2).write (v / 65536)) m q → Put m q ((raw 2).write (v % 65536)) k r → Put l p ((raw 4).write v) k r
+  put_raw4 a b = put_twice 2 (omega arith) v a b
+
+  pub put_raw8 : Put l p ((raw 4).write (v / 4294967296)) m q → Put m q ((raw 4).write (v % 4294967296)) k r → Put l p ((raw 8).write v) k r
+  put_raw8 a b = put_twice 4 (omega arith) v a b

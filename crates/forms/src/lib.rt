@@ -8,6 +8,7 @@ pub mod lone;
 pub mod number;
 pub mod numbers;
 pub mod optional;
+pub mod place;
 pub mod raw;
 pub mod refusal;
 pub mod stop;

@@ -7,7 +7,7 @@ ghost use Rattle.forms.specs.Lone.{read_one, write_one};
 ghost use Rattle.forms.specs.Put.{Put, stored};
 
 use crate::form::ByteForm;
-use crate::raw::store_bytes;
+use crate::place::store_first;
 use crate::refusal::Refusal;
 use crate::stop::Stop;
 
@@ -64,16 +64,13 @@ pub fn put<T: ByteForm>(out: &mut [u8], place: Option<usize>, value: &T) -> Opti
 }
 
 // What there is room for, of a value for which there is too little.
-#[tactic(auto, using(crate::proofs::Written::part_stored, crate::proofs::Written::none_stored))]
+#[tactic(auto, using(crate::proofs::Written::buffered))]
 fn put_short<T: ByteForm>(out: &mut [u8], at: usize, value: &T)
     requires short { length out.old < at + length (T.form.write value.now) }
     requires longest { length (T.form.write value.now) ≤ 512 }
     ensures { out.new ≡ stored out.old (Some at) (T.form.write value.now) }
 {
-    if at < out.len() {
-        let mut bytes = [0; 512];
-        value.write(&mut bytes, 0);
-        let room = out.len() - at;
-        store_bytes(out, at, &bytes[..room]);
-    }
+    let mut bytes = [0; 512];
+    let len = value.write(&mut bytes, 0);
+    store_first(out, at, &bytes[..len]);
 }

@@ -1,7 +1,7 @@
 //! Putting a line together: what a field of it is written as, and text put into a buffer at a place.
-use std::fmt;
 use std::fmt::Display;
 use std::io::Write;
+use std::{fmt, str};
 
 /// Bytes in hex: '-' where there are none.
 #[derive(Debug, Clone, Copy)]
@@ -12,10 +12,23 @@ impl Display for Hex<'_> {
         if self.0.is_empty() {
             return f.write_str("-");
         }
-        for byte in self.0 {
-            write!(f, "{byte:02x}")?;
+        // Many digits at once: written byte by byte they took more than all else that a run of a program does.
+        let mut room = [0; 64];
+        for bytes in self.0.chunks(32) {
+            f.write_str(digits_of(bytes, &mut room))?;
         }
         Ok(())
+    }
+}
+
+// The digits of at most 32 bytes.
+fn digits_of<'a>(bytes: &[u8], room: &'a mut [u8; 64]) -> &'a str {
+    let Some(digits) = room.get_mut(..bytes.len().saturating_mul(2)) else {
+        return "";
+    };
+    match hex::encode_to_slice(bytes, digits) {
+        Ok(()) => str::from_utf8(digits).unwrap_or(""),
+        Err(_) => "",
     }
 }
 
@@ -35,7 +48,10 @@ impl<T: Display> Display for OrDash<T> {
 /// Puts text into `out` at a place, and answers the place behind it. What does not fit is cut off.
 pub fn put(out: &mut [u8], from: usize, text: &[u8]) -> usize {
     let mut at = from;
-    for (place, byte) in out.iter_mut().skip(from).zip(text) {
+    let Some(room) = out.get_mut(from..) else {
+        return at;
+    };
+    for (place, byte) in room.iter_mut().zip(text) {
         *place = *byte;
         at = at.saturating_add(1);
     }

@@ -5,8 +5,9 @@ use std::alloc::Global;
 use std::io;
 use std::io::{BufRead, BufReader, ErrorKind, Input, Print, Read, Write};
 
-/// Prints each of our lines that is not the list's, and a summary. A list that cannot be read counts as a line that differs; an
-/// error says that the output cannot be written, or that memory is short.
+/// Prints each of our lines that is not the list's, and a summary. A list that cannot be read counts as a line that differs. A line
+/// that cannot be written is let go: the summary's end tells of all, since where a pipe is closed or a disk is full, it stays so. An
+/// error says that it could not be written, or that memory is short.
 pub fn replay<L: List>(rt: &(impl Input + Print), alloc: Global) -> io::Result<()> {
     let mut tally = Tally::new(alloc, L::COUNTED)?;
     let mut reader = BufReader::new(alloc, rt.reader())?;
@@ -18,7 +19,7 @@ pub fn replay<L: List>(rt: &(impl Input + Print), alloc: Global) -> io::Result<(
             Ok(Some(end)) => end,
             Ok(None) => break,
             Err(_) => {
-                rt.println("differs: the list cannot be read")?;
+                let _ = rt.println("differs: the list cannot be read");
                 tally.add_difference();
                 break;
             }
@@ -28,7 +29,7 @@ pub fn replay<L: List>(rt: &(impl Input + Print), alloc: Global) -> io::Result<(
             break;
         }
     }
-    rt.println(&tally)
+    tally.print(rt)
 }
 
 // What a line ends with. The last one may lack an end of its own.
@@ -53,10 +54,26 @@ fn next_line<R: BufRead>(
     }
     if most < count {
         line.truncate(most);
-        reader.skip_until(b'\n')?;
-        return Ok(Some(End::OfLine));
+        return rest_of_line(reader).map(Some);
     }
     Ok((0 < count).then_some(End::OfList))
+}
+
+// Goes past what a line has beyond its room.
+fn rest_of_line<R: BufRead>(reader: &mut R) -> io::Result<End> {
+    for _ in 0..u64::MAX {
+        let bytes = reader.fill_buf()?;
+        let all = bytes.len();
+        if let Some(end) = bytes.iter().position(|byte| *byte == b'\n') {
+            reader.consume(end + 1);
+            return Ok(End::OfLine);
+        }
+        if all == 0 {
+            break;
+        }
+        reader.consume(all);
+    }
+    Ok(End::OfList)
 }
 
 // Compares a line, unless it is a comment.
@@ -75,10 +92,10 @@ fn take_line<L: List>(
     }
     ours.truncate(L::MOST_LINE);
     tally.add_difference();
-    let mut out = io::writer(rt);
-    out.write_all(b"differs: ")?;
-    out.write_all(ours.as_slice())?;
-    out.write_all(b"\n")
+    let _ = rt.write_all(b"differs: ");
+    let _ = rt.write_all(ours.as_slice());
+    let _ = rt.write_all(b"\n");
+    Ok(())
 }
 
 fn our_line<L: List>(

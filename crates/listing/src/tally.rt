@@ -1,7 +1,8 @@
 //! Counting the lines, and saying how many there were.
 use std::alloc::{AllocError, Global};
-use std::fmt;
 use std::fmt::Display;
+use std::io;
+use std::io::Print;
 
 /// How many there were of each thing that is counted, and how many of all lines differ. No list is so long that a count ends at
 /// the top.
@@ -33,19 +34,25 @@ impl<C: Copy + PartialEq> Tally<C> {
     }
 }
 
-impl<C: Display> Display for Tally<C> {
-    fn fmt<W: fmt::Write>(&self, f: &mut fmt::Formatter<W>) -> fmt::Result {
+impl<C: Display> Tally<C> {
+    /// Prints the summary, a piece at a time. What is answered is whether its last piece could be written.
+    pub fn print(&self, rt: &impl Print) -> io::Result<()> {
         if self.differ == 0 && self.counts.iter().all(|(_, count)| *count == 0) {
-            return f.write_str("no lines");
+            return rt.println("no lines");
         }
         let mut separator = "";
         for (what, count) in self.counts.iter() {
-            write!(f, "{separator}{what} {count}")?;
+            let _ = rt.print(format_args!("{separator}{what} "));
+            let _ = rt.print(count);
             separator = ", ";
         }
         match self.differ {
-            0 => f.write_str(": all agree"),
-            differ => write!(f, ": {differ} differ"),
+            0 => rt.println(": all agree"),
+            differ => {
+                let _ = rt.print(": ");
+                let _ = rt.print(differ);
+                rt.println(" differ")
+            }
         }
     }
 }

@@ -10,7 +10,7 @@ use native.Mathlib.Numerals.{add-one}
 use native.Mathlib.Omega.{arith}
 use mathlib.Core.List.{List, [], ◌∷◌, ◌++◌, append_assoc}
 use lib.ListN.{length, replicate, length-replicate, get_or-replicate, take, drop, get_or, set, length-append, length-take, length-drop, length-set, take-append-drop, get_or-append}
-use lib.Seq.{length-take-le, get_or-take, get_or-drop, get_or-append-add, ext_get_or, drop_at, take_at, take-take, take-add, drop-drop, drop-append-le, set_split}
+use lib.Seq.{length-take-le, get_or-take, get_or-drop, get_or-append-add, ext_get_or, drop_at, take_at, take-take, take-add, drop-drop, drop-append-le, set_split, take-suc, take_all}
 use borrow.Rule.Slice.PartMut.{put_mid}
 use Rattle.std.specs.Int.{w64, from_le_bytes, to_le_bytes}
 use Rattle.memory.specs.Decides.{Decides}
@@ -259,3 +259,35 @@ part_replicate m b a n h =
 pub put_front : (s t : List ℕ) (n : ℕ) → length t ≡ n → t ++ drop n s ≡ patch s 0 t
 unfolding patch
 put_front s t n e = ap (λ (m : ℕ). t ++ drop m s) (sym e)
+
+-- ---- a copy, byte by byte
+
+-- src's first k bytes have been copied into s from at, which gives t
+pub record Copied (s : List ℕ) (at : ℕ) (src : List ℕ) (k : ℕ) (t : List ℕ) : Type 0 where
+  pub within : k ≤ length src
+  pub long : length t ≡ length s
+  pub is : t ≡ patch s at (take k src)
+
+pub copied_none : (s : List ℕ) (at : ℕ) (src : List ℕ) → Copied s at src 0 s
+unfolding patch
+copied_none s at src = record { within = omega arith; long = refl; is = sym (take-append-drop at s) }
+
+pub copied_more : (s : List ℕ) (at : ℕ) (src : List ℕ) (k : ℕ) (t : List ℕ) → at + length src ≤ length s → k < length src
+    → Copied s at src k t → Copied s at src (k + 1) (set t (at + k) (get_or src k 0))
+copied_more s at src k t fits more done =
+    let b : ℕ = get_or src k 0 in
+    let front : List ℕ = take k src in
+    let n : length front ≡ k = length-take-le k src (omega arith) in
+    let e : take k src ++ (b ∷ []) ≡ take (k + 1) src = sym (ap (λ (m : ℕ). take m src) (add-one k) ∙ take-suc src k 0 more) in
+    record {
+      within = omega arith;
+      long = length-set t (at + k) b ∙ done.long;
+      is =
+          set_patch t (at + k) b (omega (arith, done.long))
+          ∙ ap (λ (u : List ℕ). patch u (at + k) (b ∷ [])) done.is
+          ∙ ap (λ (m : ℕ). patch (patch s at front) (at + m) (b ∷ [])) (sym n)
+          ∙ patch_join s at front (b ∷ []) (omega arith) ∙ ap (patch s at) e;
+    }
+
+pub copied_all : (s : List ℕ) (at : ℕ) (src : List ℕ) (k : ℕ) (t : List ℕ) → length src ≤ k → Copied s at src k t → t ≡ patch s at src
+copied_all s at src k t h done = done.is ∙ ap (patch s at) (take_all k src h)

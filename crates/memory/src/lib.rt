@@ -25,13 +25,14 @@ pub fn store_u64(s: &mut [u8], at: usize, v: u64)
     s[at..at + 8].copy_from_slice(&v.to_le_bytes());
 }
 
-/// All of `src`, from `at`.
-#[tactic(auto, unfolding(crate::specs::Bytes::patch))]
+/// All of `src`, from `at`. Byte by byte: `copy_from_slice` may become a `memmove`, and the library needs memcpy and memset alone.
 pub fn copy_at(dst: &mut [u8], at: usize, src: &[u8])
     requires { at + length src.now ≤ length dst.old }
     ensures { dst.new ≡ patch dst.old at src.now }
 {
-    dst[at..at + src.len()].copy_from_slice(src);
+    for k in 0..src.len() {
+        dst[at + k] = src[k];
+    }
 }
 
 /// Every byte of `s` becomes `b`.

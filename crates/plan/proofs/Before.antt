@@ -1,19 +1,17 @@
--- The order of two slots: by key bytes, as std orders them, and by end and then key. Assumes nothing.
-use Rattle.std.specs.Prelude.{Some}
-use Rattle.std.specs.Ordering.{nat_cmp, is_le, is_some_and}
-use Rattle.std.specs.Cmp.Lexicographic.{slice_partial_cmp}
-use Rattle.std.proofs.lemmas.Cmp.{same_from_slice_cmp_tested}
-use mathlib.Core.Path.{◌≡◌, refl, sym, ◌∙◌}
-use mathlib.Core.Bool.{Bool, true, false}
+-- The order of byte strings as `bytes_before` decides it, and the order of two slots. Assumes nothing.
+use mathlib.Core.Path.{◌≡◌, refl, sym, ap, ◌∙◌}
+use mathlib.Core.Bool.{Bool, true, false, not}
 use mathlib.Core.List.{List, ◌∷◌}
-use Prim.Native.Nat.{ℕ, ◌≤◌, ◌<◌}
+use Prim.Native.Nat.{ℕ, suc, ◌+◌, ◌≤◌, ◌<◌}
+use native.Mathlib.Numerals.{add-one}
 use native.Mathlib.Omega.{arith}
+use lib.ListN.{length, get_or, drop, drop_of_length-le}
+use lib.Seq.{drop-cons}
 use borrow.Author.Tests.{lt-ltb, le-ltb, eq-eqb, ne_eqb}
-use Rattle.std.proofs.lemmas.Bool.Decides.{nat_tests}
 use Rattle.slots.specs.Table.{slot}
 use Rattle.table.specs.Due.{end_of}
 use Rattle.rules.specs.Order.{at_most}
-use Rattle.plan.specs.Steps.{key_at, rank_at}
+use Rattle.plan.specs.Steps.{before, key_at, rank_at}
 
 -- ## By the first number
 
@@ -27,15 +25,36 @@ module _ (x y : ℕ) (xs ys : List ℕ) where
   first_more : y < x → at_most (x ∷ xs) (y ∷ ys) ≡ false
   first_more h = rw (le-ltb x y (omega arith), ne_eqb x y (λ e. omega arith))
 
+-- ## At place k of both: the first difference decides
+
+module _ (a b : List ℕ) (k : ℕ) where
+  pub ended : length b ≤ k → before (drop k a) (drop k b) ≡ false
+  ended h = rw (drop_of_length-le b h)
+
+  pub shorter : length a ≤ k → k < length b → before (drop k a) (drop k b) ≡ true
+  shorter h l = rw (drop_of_length-le a h, drop-cons b k 0 l)
+
+  pub less : k < length a → k < length b → get_or a k 0 < get_or b k 0 → before (drop k a) (drop k b) ≡ true
+  less ha hb l = rw (drop-cons a k 0 ha, drop-cons b k 0 hb) (ap not (first_more (get_or b k 0) (get_or a k 0) (drop (suc k) b) (drop (suc k) a) l))
+
+  pub more : k < length a → k < length b → get_or b k 0 < get_or a k 0 → before (drop k a) (drop k b) ≡ false
+  more ha hb l = rw (drop-cons a k 0 ha, drop-cons b k 0 hb) (ap not (first_less (get_or b k 0) (get_or a k 0) (drop (suc k) b) (drop (suc k) a) l))
+
+  pub alike : k < length a → k < length b → get_or b k 0 ≤ get_or a k 0 → get_or a k 0 ≤ get_or b k 0
+      → before (drop k a) (drop k b) ≡ before (drop (k + 1) a) (drop (k + 1) b)
+  alike ha hb l g =
+      rw (add-one k, drop-cons a k 0 ha, drop-cons b k 0 hb)
+      (ap not (first_same (get_or b k 0) (get_or a k 0) (drop (suc k) b) (drop (suc k) a) (omega arith)))
+
 -- ## Two slots by key
 
--- std's order of byte strings is the order of a dictionary
-std_at_most : (xs ys : List ℕ) (r : Bool) → r ≡ is_some_and is_le (slice_partial_cmp (λ x y. Some (nat_cmp x y)) xs ys) → r ≡ at_most xs ys
-std_at_most = same_from_slice_cmp_tested nat_cmp is_le at_most refl (λ _ _. refl) (λ _ _. refl) (λ x y xs ys o h. grind (arith, nat_tests))
+twice : (b : Bool) → not (not b) ≡ b
+twice true = refl
+twice false = refl
 
-pub as_key : (s : List ℕ) (i j : ℕ) (a b : List ℕ) → a ≡ key_at s i → b ≡ key_at s j → (r : Bool)
-    → r ≡ is_some_and is_le (slice_partial_cmp (λ x y. Some (nat_cmp x y)) a b) → r ≡ at_most (key_at s i) (key_at s j)
-as_key s i j a b p q r e = std_at_most a b r e ∙ rw (p, q) refl
+pub as_key : (s : List ℕ) (i j : ℕ) (a b : List ℕ) → a ≡ key_at s j → b ≡ key_at s i → (r : Bool) → r ≡ before a b
+    → not r ≡ at_most (key_at s i) (key_at s j)
+as_key s i j a b p q r e = ap not e ∙ twice (at_most b a) ∙ rw (p, q) refl
 
 -- ## Two slots, by end and then key
 

@@ -13,6 +13,7 @@ use listing::list::{List, Unanswered};
 use listing::runner::replay;
 use listing::tally::Tally;
 use std::alloc::Global;
+use std::io::ErrorKind;
 use std::process::ExitCode;
 
 // The list of numbers and keys.
@@ -49,6 +50,12 @@ impl List for NumbersAndKeys {
 fn main(rt: HostRuntime) -> ExitCode {
     match replay::<NumbersAndKeys>(&rt, rt.alloc()) {
         Ok(()) => ExitCode::SUCCESS,
-        Err(_) => ExitCode::FAILURE,
+        Err(error) => {
+            // What cannot be written has no other place to be told of.
+            if error.kind() == ErrorKind::OutOfMemory {
+                let _ = eprintln!(rt; "vectors: out of memory");
+            }
+            ExitCode::FAILURE
+        }
     }
 }

@@ -5,7 +5,7 @@
 ghost use Rattle.std.specs.Prelude.{◌≡◌, ◌+◌, ◌≤◌, None, Some, length};
 ghost use Rattle.std.proofs.Common.{rules};
 ghost use Rattle.forms.specs.Form.{found};
-ghost use Rattle.forms.specs.Optional.{to_opt};
+ghost use Rattle.forms.specs.Number.{number};
 ghost use Rattle.forms.specs.Put.{Writes};
 ghost use Rattle.wire.specs.PacketForm.{facts, packet};
 ghost use Rattle.wire.specs.RecordForm.{schema, head, flags, direction, tail, fields};
@@ -19,23 +19,13 @@ use flow::record::PacketFacts;
 use flow::time::Nanos;
 use forms::form::ByteForm;
 use forms::number::{read_bounded, store_number};
+use forms::optional::opt_u16_field;
 use forms::raw::{read_byte, store_byte};
 use forms::stop::Stop;
 use key::key::FlowKey;
 use stats::counts::TcpFlagCounts;
 
 // ---- a packet: time; frame octets, captured octets; TTL; TCP flags; ICMP; DSCP, ECN; key
-
-// The optional mask that a number stands for.
-fn mask_from(number: u64) -> Option<u16>
-    requires { number ≤ 512 }
-    ensures { result ≡ to_opt None (λ k. Some k) number }
-{
-    match number {
-        0 => None,
-        next => Some((next - 1) as u16),
-    }
-}
 
 /// Reads the facts of a packet. TCP flags are a mask of nine bits.
 pub(crate) fn read_facts(bytes: &mut &[u8]) -> Result<PacketFacts, Stop>
@@ -46,7 +36,7 @@ pub(crate) fn read_facts(bytes: &mut &[u8]) -> Result<PacketFacts, Stop>
         frame_octets: u32::read(bytes)?,
         captured_octets: u32::read(bytes)?,
         ttl: Option::read(bytes)?,
-        tcp_flags: mask_from(read_bounded(bytes, 512)?),
+        tcp_flags: opt_u16_field(bytes, 511)?,
         icmp: Option::read(bytes)?,
         dscp: Option::read(bytes)?,
         ecn: Option::read(bytes)?,
@@ -153,19 +143,27 @@ impl ByteForm for HeadFields {
     ghost short = { Prim.search rules };
 }
 
+// Reads a count or a sum. Most are small, so a number of nine groups is not looked for first, as a time's is.
+#[inline(always)]
+fn read_count(bytes: &mut &[u8]) -> Result<u64, Stop>
+    ensures { found result bytes.new.now ≡ (number 18446744073709551615).read bytes.old.now }
+{
+    read_bounded(bytes, u64::MAX)
+}
+
 fn read_flags(bytes: &mut &[u8]) -> Result<TcpFlagCounts, Stop>
     ensures { found result bytes.new.now ≡ flags.read bytes.old.now }
 {
     Ok(TcpFlagCounts {
-        fin: u64::read(bytes)?,
-        syn: u64::read(bytes)?,
-        rst: u64::read(bytes)?,
-        psh: u64::read(bytes)?,
-        ack: u64::read(bytes)?,
-        urg: u64::read(bytes)?,
-        ece: u64::read(bytes)?,
-        cwr: u64::read(bytes)?,
-        ns: u64::read(bytes)?,
+        fin: read_count(bytes)?,
+        syn: read_count(bytes)?,
+        rst: read_count(bytes)?,
+        psh: read_count(bytes)?,
+        ack: read_count(bytes)?,
+        urg: read_count(bytes)?,
+        ece: read_count(bytes)?,
+        cwr: read_count(bytes)?,
+        ns: read_count(bytes)?,
     })
 }
 
@@ -206,8 +204,8 @@ impl ByteForm for DirectionFields {
 
     fn read(bytes: &mut &[u8]) -> Result<DirectionFields, Stop> {
         Ok(DirectionFields {
-            packets: u64::read(bytes)?,
-            frame_octets: u64::read(bytes)?,
+            packets: read_count(bytes)?,
+            frame_octets: read_count(bytes)?,
             least: Option::read(bytes)?,
             greatest: Option::read(bytes)?,
             flags: read_flags(bytes)?,
@@ -245,7 +243,7 @@ impl ByteForm for TailFields {
             dscp: Option::read(bytes)?,
             ecn: Option::read(bytes)?,
             icmp: Option::read(bytes)?,
-            captured_octets: u64::read(bytes)?,
+            captured_octets: read_count(bytes)?,
             truncated: bit_from(read_bounded(bytes, 1)?),
         })
     }

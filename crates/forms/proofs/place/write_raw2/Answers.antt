@@ -1,0 +1,6 @@
+use Rattle.std.proofs.Common.{arith}
+use Rattle.forms.proofs.RawLaws.{two_put}
+use Rattle.forms.proofs.place.write_raw2.Goals as goal
+
+pub returns : goal.returns
+returns c = two_put c.to_be_bytes.ensures (omega arith) c.put_bytes.ensures
