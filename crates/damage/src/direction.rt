@@ -38,17 +38,7 @@ const CHANGES: [(&str, u8, &[u64]); 8] = [
 // The flags, whose counts are the words from this one on.
 const FIRST_FLAG: u8 = 4;
 
-const FLAGS: [&str; 9] = [
-    "fin count above packets",
-    "syn count above packets",
-    "rst count above packets",
-    "psh count above packets",
-    "ack count above packets",
-    "urg count above packets",
-    "ece count above packets",
-    "cwr count above packets",
-    "ns count above packets",
-];
+const FLAGS: [&str; 9] = ["fin", "syn", "rst", "psh", "ack", "urg", "ece", "cwr", "ns"];
 
 pub fn damage(rt: &impl Print, state: &Memory, tally: &mut Tally) {
     for direction in DIRECTIONS {
@@ -64,8 +54,10 @@ impl Direction {
         let most = u64::from(self.packets);
         let name = "fin count as packets";
         self.judge(rt, state, tally, name, FIRST_FLAG, &[most]);
-        for (name, word) in FLAGS.into_iter().zip(FIRST_FLAG..=12) {
-            self.judge(rt, state, tally, name, word, &[most + 1]);
+        for (flag, word) in FLAGS.into_iter().zip(FIRST_FLAG..=12) {
+            let _ = rt.print(self.name);
+            let _ = rt.print(format_args!(" {flag}"));
+            self.judge_word(rt, state, tally, "count above packets", word, &[most + 1]);
         }
     }
 
@@ -78,10 +70,23 @@ impl Direction {
         word: u8,
         words: &[u64],
     ) {
+        let _ = rt.print(self.name);
+        self.judge_word(rt, state, tally, name, word, words);
+    }
+
+    // The same, with the direction's name in front of the line already.
+    fn judge_word(
+        &self,
+        rt: &impl Print,
+        state: &Memory,
+        tally: &mut Tally,
+        name: &str,
+        word: u8,
+        words: &[u64],
+    ) {
         let word = usize::from(self.first_word) + usize::from(word);
         let mut copy = *state;
         put_words(&mut copy, FIRST_RECORD + word * WORD, words);
-        let _ = rt.print(self.name);
         tally.judge(rt, format_args!(" {name}"), &copy);
     }
 }
