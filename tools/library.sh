@@ -17,7 +17,8 @@ done
 ar rcs build/lib/libbraidpuddle.a build/lib/objects/*.o
 
 # README.md and the header promise that it needs memcpy and memset alone.
-needs=$(nm -u build/lib/libbraidpuddle.a | awk '$1 == "U" && $2 != "memcpy" && $2 != "memset" { print $2 }')
+names=$(nm -u build/lib/libbraidpuddle.a)
+needs=$(echo "$names" | awk 'NF == 2 && $2 != "memcpy" && $2 != "memset" { print $2 }')
 if [ -n "$needs" ]; then
     echo "library: it needs more from outside than memcpy and memset:" $needs
     exit 1
