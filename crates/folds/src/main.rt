@@ -13,10 +13,9 @@ mod totals;
 
 use kind::{Counted, Kind};
 use listing::list::{List, Unanswered};
-use listing::runner::replay;
+use listing::runner::run;
 use listing::tally::Tally;
 use std::alloc::Global;
-use std::io::ErrorKind;
 use std::process::ExitCode;
 
 // The list of packets, records and counting.
@@ -54,14 +53,5 @@ impl List for PacketsAndRecords {
 }
 
 fn main(rt: HostRuntime) -> ExitCode {
-    match replay::<PacketsAndRecords>(&rt, rt.alloc()) {
-        Ok(()) => ExitCode::SUCCESS,
-        Err(error) => {
-            // What cannot be written has no other place to be told of.
-            if error.kind() == ErrorKind::OutOfMemory {
-                let _ = eprintln!(rt; "folds: out of memory");
-            }
-            ExitCode::FAILURE
-        }
-    }
+    run::<PacketsAndRecords>(&rt, rt.alloc(), "folds")
 }

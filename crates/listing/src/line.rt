@@ -15,21 +15,18 @@ impl Display for Hex<'_> {
         // Many digits at once: written byte by byte they took more than all else that a run of a program does.
         let mut room = [0; 64];
         for bytes in self.0.chunks(32) {
-            f.write_str(digits_of(bytes, &mut room))?;
+            f.write_str(digits_of(bytes, &mut room)?)?;
         }
         Ok(())
     }
 }
 
 // The digits of at most 32 bytes.
-fn digits_of<'a>(bytes: &[u8], room: &'a mut [u8; 64]) -> &'a str {
-    let Some(digits) = room.get_mut(..bytes.len().saturating_mul(2)) else {
-        return "";
-    };
-    match hex::encode_to_slice(bytes, digits) {
-        Ok(()) => str::from_utf8(digits).unwrap_or(""),
-        Err(_) => "",
-    }
+fn digits_of<'a>(bytes: &[u8], room: &'a mut [u8; 64]) -> Result<&'a str, fmt::Error> {
+    let count = bytes.len().saturating_mul(2);
+    let digits = room.get_mut(..count).ok_or(fmt::Error)?;
+    hex::encode_to_slice(bytes, digits).map_err(|_| fmt::Error)?;
+    str::from_utf8(digits).map_err(|_| fmt::Error)
 }
 
 /// A value, or '-' where there is none.

@@ -3,7 +3,22 @@ use crate::list::{List, Unanswered};
 use crate::tally::Tally;
 use std::alloc::Global;
 use std::io;
-use std::io::{BufRead, BufReader, ErrorKind, Input, Print, Read, Write};
+use std::io::{BufRead, BufReader, Eprint, ErrorKind, Input, Print, Read, Write};
+use std::process::ExitCode;
+
+/// Replays a list, and answers with the program's status. Where memory is short, standard error says so; a line that cannot be written
+/// has no other place to be told of.
+pub fn run<L: List>(rt: &(impl Input + Print + Eprint), alloc: Global, program: &str) -> ExitCode {
+    match replay::<L>(rt, alloc) {
+        Ok(()) => ExitCode::SUCCESS,
+        Err(error) => {
+            if error.kind() == ErrorKind::OutOfMemory {
+                let _ = rt.eprintln(format_args!("{program}: out of memory"));
+            }
+            ExitCode::FAILURE
+        }
+    }
+}
 
 /// Prints each of our lines that is not the list's, and a summary. A list that cannot be read counts as a line that differs. A line
 /// that cannot be written is let go: the summary's end tells of all, since where a pipe is closed or a disk is full, it stays so. An

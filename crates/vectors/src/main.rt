@@ -10,10 +10,9 @@ mod numbers;
 
 use kind::{Counted, Kind};
 use listing::list::{List, Unanswered};
-use listing::runner::replay;
+use listing::runner::run;
 use listing::tally::Tally;
 use std::alloc::Global;
-use std::io::ErrorKind;
 use std::process::ExitCode;
 
 // The list of numbers and keys.
@@ -48,14 +47,5 @@ impl List for NumbersAndKeys {
 }
 
 fn main(rt: HostRuntime) -> ExitCode {
-    match replay::<NumbersAndKeys>(&rt, rt.alloc()) {
-        Ok(()) => ExitCode::SUCCESS,
-        Err(error) => {
-            // What cannot be written has no other place to be told of.
-            if error.kind() == ErrorKind::OutOfMemory {
-                let _ = eprintln!(rt; "vectors: out of memory");
-            }
-            ExitCode::FAILURE
-        }
-    }
+    run::<NumbersAndKeys>(&rt, rt.alloc(), "vectors")
 }
